@@ -1,0 +1,3 @@
+pub mod Loop
+pub mod Edges
+pub mod Schedule
