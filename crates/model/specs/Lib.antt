@@ -1,3 +1,9 @@
 pub mod Loop
 pub mod Edges
 pub mod Schedule
+pub mod Shapes
+pub mod Lines
+pub mod Questions
+pub mod MachineText
+pub mod LoopText
+pub mod TextLaws

@@ -27,3 +27,18 @@ pub struct Edge {
     pub delay: usize,
     pub distance: usize,
 }
+
+// The forms of a line of the machine text.
+#[derive(Clone, Copy, PartialEq, Eq, Debug)]
+pub enum MachineForm {
+    Unit,
+    Op,
+}
+
+// What a machine makes of a code: the number of its unit class, when its result lands, and how long it keeps a unit busy.
+#[derive(Clone, Copy, PartialEq, Eq, Debug)]
+pub struct Timing {
+    pub class: usize,
+    pub latency: usize,
+    pub busy: usize,
+}

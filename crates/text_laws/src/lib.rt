@@ -1,0 +1,16 @@
+// What the definitions of the two texts are for, as the contracts of functions that do nothing.
+ghost use Rattle.model.specs.TextLaws.{MachineLaw, LoopLaw};
+
+// A machine text is accepted exactly if every question is answered yes, and a refusal gives the first no.
+pub fn machine_text_law() -> u8
+    ensures { λ _. ⌜ MachineLaw ⌝ }
+{
+    0
+}
+
+// The same of the loop text.
+pub fn loop_text_law() -> u8
+    ensures { λ _. ⌜ LoopLaw ⌝ }
+{
+    0
+}
