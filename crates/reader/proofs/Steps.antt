@@ -58,6 +58,7 @@ none line at (b ∷ bs) h =
 
 module _ (line : ℕ) (s : List ℕ) (at b e : ℕ) (eb : b ≡ at + leading space (drop at s)) (ee : e ≡ b + leading solid (drop b s)) where
   skipped : left line s at ≡ left line s b
+  unfolding left
   skipped =
       skips line at (drop at s)
       ∙ ap (λ r. lexemes line (at + leading space (drop at s)) true r) (drop-drop (leading space (drop at s)) at s)
@@ -65,6 +66,7 @@ module _ (line : ℕ) (s : List ℕ) (at b e : ℕ) (eb : b ≡ at + leading spa
 
   -- a token, and what is left after it
   pub onward : (t : Lexeme) → (b ≡ e → ⊥) → t ≡ lexeme (take (e - b) (drop b s)) line b → left line s at ≡ t ∷ left line s e
+  unfolding left
   onward t ne q =
       let size : e - b ≡ leading solid (drop b s) = omega arith in
       let some : 0 < leading solid (drop b s) = ⊎-elim (λ x. x) (λ x. absurd (ne (omega arith))) (cases-lt 0 (leading solid (drop b s))) in
@@ -76,10 +78,12 @@ module _ (line : ℕ) (s : List ℕ) (at b e : ℕ) (eb : b ≡ at + leading spa
 
   -- no token any more
   pub finished : b ≡ e → left line s at ≡ []
+  unfolding left
   finished q =
       let zero-long : leading solid (drop b s) ≡ 0 = omega arith in
       let same : drop (leading space (drop at s)) (drop at s) ≡ drop b s = drop-drop (leading space (drop at s)) at s ∙ sym (ap (λ i. drop i s) eb) in
       none line at (drop at s) (ap (leading solid) same ∙ zero-long)
 
   pub stays : b ≡ e → left line s e ≡ []
+  unfolding left
   stays q = sym (ap (left line s) q) ∙ sym skipped ∙ finished q

@@ -21,10 +21,10 @@ shown None = None
 shown (Some t) = Some (seen t)
 
 -- the tokens of a line of which `at` bytes have been read
-abbrev pub left : ℕ → List ℕ → ℕ → List Lexeme
+unfoldable pub left : ℕ → List ℕ → ℕ → List Lexeme
 left line text at = lexemes line at true (drop at text)
 
 -- a token, if there was one, in front of others
-abbrev pub taken : Option Token → List Lexeme → List Lexeme
+unfoldable pub taken : Option Token → List Lexeme → List Lexeme
 taken None rest = rest
 taken (Some t) rest = seen t ∷ rest

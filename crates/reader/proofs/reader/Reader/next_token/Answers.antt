@@ -2,10 +2,12 @@ use borrow.Author.Needs.{needs}
 use mathlib.Core.Path.{_≡_, sym, _∙_}
 use Prim.Native.Nat.{ℕ}
 use native.Mathlib.Omega.{arith}
+use Rattle.reader.specs.Seen.{taken}
 use Rattle.reader.proofs.Steps.{onward, finished, stays}
 use Rattle.reader.proofs.reader.Reader.next_token.Needs as need
 
 pub returns-then-start-end : need.returns-then-start-end
+unfolding taken
 returns-then-start-end c =
     let self = c .args .self .now in
     let b = c .skip-spaces-start .ensures .value in
@@ -19,6 +21,7 @@ returns-then-start-end c =
     }
 
 pub returns : need.returns
+unfolding taken
 returns c =
     let self = c .args .self .now in
     record {
