@@ -7,3 +7,4 @@ pub mod Questions
 pub mod MachineText
 pub mod LoopText
 pub mod TextLaws
+pub mod Soundness

@@ -97,3 +97,10 @@ module _ (w : List ℕ) where
       go false true c q = refl
       go false false true q = let z : _≡_ {A = ℕ} 0 1 = cc in absurd (omega arith)
       go false false false q = let z : _≡_ {A = ℕ} 0 1 = cc in absurd (omega arith)
+
+module _ (l : Line) (i : ℕ) (o : Option Lexeme) (e : o ≡ nthOf (tokens l) i) where
+  pub name-at : isWord (orNone o .kind) ≡ true → isName (orNone o .bytes) ≡ true
+  name-at h = word-is-name (orNone o .bytes) (sym (ap isWord (kind-fits l i o e)) ∙ h)
+
+  pub number-at : isDigits (orNone o .kind) ≡ true → isNumber (orNone o .bytes) ≡ true
+  number-at h = digits-is-number (orNone o .bytes) (sym (ap isDigits (kind-fits l i o e)) ∙ h)

@@ -1,7 +1,8 @@
 -- The reader's tokens as the definitions have them.
-use mathlib.Core.Bool.{true}
+use mathlib.Core.Bool.{Bool, true, not}
 use mathlib.Core.List.{List, _∷_}
 use Prim.Native.Nat.{ℕ}
+use lib.Dec.{eqb}
 use lib.ListN.{drop}
 use Rattle.std.specs.declared.option.Option.{Option}
 use Rattle.std.specs.declared.option.Option.the-variants.{Some, None}
@@ -28,3 +29,7 @@ left line text at = lexemes line at true (drop at text)
 unfoldable pub taken : Option Token → List Lexeme → List Lexeme
 taken None rest = rest
 taken (Some t) rest = seen t ∷ rest
+
+-- a byte that ends no line
+abbrev pub inside : ℕ → Bool
+inside b = not (eqb b 10)

@@ -1,0 +1,4 @@
+pub mod Names
+pub mod Steps
+pub mod LineSteps
+pub mod Cuts
