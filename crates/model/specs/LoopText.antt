@@ -18,7 +18,7 @@ use Rattle.model.specs.declared.Code.the-variants.{Load, Store, Add, Sub, Mul,
 use Rattle.model.specs.declared.Operator.{Operator}
 use Rattle.model.specs.declared.Operator.the-variants.{Plus, Minus, Times}
 use Rattle.model.specs.Shapes.{some, between, isSome, isReserved, value, nameOf, afterAt, Kind, word, number, operand, other}
-use Rattle.model.specs.Lines.{Line, Lexeme, tokens, tok, amount, Want, fixed, a-name, a-number, an-operand, formAmong}
+use Rattle.model.specs.Lines.{Line, Lexeme, tokens, tok, amount, Want, fixed, a-name, a-number, an-operand, formAmong, isDigits}
 use Rattle.model.specs.Questions.{Answer, good, bad, asked, atLine, Check, check, each, printable, formedBy, Refusal, Rules, reading}
 use Rattle.model.specs.Loop.{Operand, literal, variable, Operation, load, store, binary, move, Loop, operands, on-operands, in-memory}
 
@@ -117,11 +117,14 @@ operandFine other w = false
 abbrev pub anOperand : Lexeme → Check
 anOperand t = check t (operandFine (t .kind) (t .bytes))
 
+abbrev pub atMost : ℕ → Lexeme → Check
+atMost hi t = check t (isDigits (t .kind) && leb (value (t .bytes)) hi)
+
 abbrev pub aStride : Lexeme → Check
-aStride t = check t (leb (value (t .bytes)) 16)
+aStride t = atMost 16 t
 
 abbrev pub anOffset : Lexeme → Check
-anOffset t = check t (leb (value (t .bytes)) 65535)
+anOffset t = atMost 65535 t
 
 abbrev pub checksBy : Code → List Lexeme → List Check
 checksBy Load ts = aStride (tok ts 3) ∷ anOffset (tok ts 4) ∷ []

@@ -1,14 +1,17 @@
 -- A reader that has handed out some tokens of a line.
 use mathlib.Core.Path.{_≡_, refl, sym, ap, _∙_}
-use mathlib.Core.Bool.{Bool, true, false, cond}
+use mathlib.Core.Bool.{Bool, true, false, cond, _||_}
 use mathlib.Core.Logic.{⊎-elim}
 use mathlib.Core.List.{List, [], _∷_}
-use Prim.Native.Nat.{ℕ, zero, suc, _+_}
+use Prim.Native.Nat.{ℕ, zero, suc, _+_, _≤_}
 use native.Mathlib.Omega.{arith}
-use Rattle.std.proofs.shelf.Tests.{cases-bool, and-parts, both-ways}
+use lib.Dec.{eqb, leb}
+use lib.ListN.{length, getD, drop}
+use Rattle.std.specs.shelf.Lists.{leading}
+use Rattle.std.proofs.shelf.Tests.{and-parts, or-cases, both-ways, eqb-true, leb-true}
 use Rattle.std.specs.declared.option.Option.{Option}
 use Rattle.std.specs.declared.option.Option.the-variants.{Some, None}
-use Rattle.model.specs.Shapes.{Kind, word, number, operand, other, kindOf, isName, isNumber, isEarlier, isNegative}
+use Rattle.model.specs.Shapes.{between, letter, nameOf, afterAt, Kind, word, number, operand, other, kindOf, isName, isNumber, isEarlier, isNegative}
 use Rattle.model.specs.Lines.{Line, Lexeme, noToken, tok, tokens, lexemes, space, run, isWord, isDigits}
 use Rattle.reader.specs.declared.token.Token.{Token}
 use Rattle.reader.specs.Seen.{seen, shown, left, taken}
@@ -79,7 +82,22 @@ module _ (l : Line) (i : ℕ) (o : Option Lexeme) (e : o ≡ nthOf (tokens l) i)
   pub tok-same : orNone o ≡ tok (tokens l) i
   tok-same = ap orNone e ∙ tok-nth (tokens l) i
 
+abbrev isCompound : Kind → Bool
+isCompound word = false
+isCompound number = false
+isCompound operand = true
+isCompound other = false
+
 module _ (w : List ℕ) where
+  pub compound : operand ≡ kindOf w → (isEarlier w || isNegative w) ≡ true
+  compound e = go (isName w) (isNumber w) (isEarlier w || isNegative w) (sym (ap isCompound e))
+    where
+      go : (a b : Bool) (c : Bool) → isCompound (cond a word (cond b number (cond c operand other))) ≡ true → c ≡ true
+      go true b c q = let z : _≡_ {A = ℕ} 0 1 = cc in absurd (omega arith)
+      go false true c q = let z : _≡_ {A = ℕ} 0 1 = cc in absurd (omega arith)
+      go false false true q = refl
+      go false false false q = let z : _≡_ {A = ℕ} 0 1 = cc in absurd (omega arith)
+
   pub word-is-name : isWord (kindOf w) ≡ true → isName w ≡ true
   word-is-name h = go (isName w) (isNumber w) _ h
     where
@@ -104,3 +122,28 @@ module _ (l : Line) (i : ℕ) (o : Option Lexeme) (e : o ≡ nthOf (tokens l) i)
 
   pub number-at : isDigits (orNone o .kind) ≡ true → isNumber (orNone o .bytes) ≡ true
   number-at h = digits-is-number (orNone o .bytes) (sym (ap isDigits (kind-fits l i o e)) ∙ h)
+
+-- the parts of an operand that is neither a word nor a number
+no-letter : (w : List ℕ) → eqb (getD w 0 0) 45 ≡ true → isEarlier w ≡ false
+no-letter [] e = let z : _≡_ {A = ℕ} 0 1 = cc in absurd (omega arith)
+no-letter (b ∷ bs) e =
+    let is : b ≡ 45 = eqb-true b 45 e in
+    let off : letter b ≡ false = ap letter is in
+    simp off
+
+module _ (w : List ℕ) (e : (isEarlier w || isNegative w) ≡ true) where
+  pub negative-number : eqb (getD w 0 0) 45 ≡ true → isNumber (drop 1 w) ≡ true
+  negative-number h = ⊎-elim (λ (a : isEarlier w ≡ true). absurd (both-ways (isEarlier w) (no-letter w h) a)) (λ (a : isNegative w ≡ true). and-parts _ _ a .1) (or-cases (isEarlier w) (isNegative w) e)
+
+  earlier : eqb (getD w 0 0) 45 ≡ false → isEarlier w ≡ true
+  earlier h =
+      ⊎-elim (λ (a : isEarlier w ≡ true). a) (λ (a : isNegative w ≡ true). absurd (both-ways (eqb (getD w 0 0) 45) h (and-parts (eqb (getD w 0 0) 45) _ a .0))) (or-cases (isEarlier w) (isNegative w) e)
+
+  pub earlier-number : eqb (getD w 0 0) 45 ≡ false → isNumber (afterAt w) ≡ true
+  earlier-number h = let x = and-parts (isName (nameOf w)) _ (earlier h) in and-parts (eqb (getD w (leading letter w) 0) 64) _ (x .1) .1
+
+  pub earlier-name : eqb (getD w 0 0) 45 ≡ false → isName (nameOf w) ≡ true
+  earlier-name h = and-parts (isName (nameOf w)) _ (earlier h) .0
+
+pub name-short : (w : List ℕ) → isName w ≡ true → length w ≤ 8
+name-short w e = let x = and-parts (between 1 8 (length w)) _ e in let y = and-parts (leb 1 (length w)) (leb (length w) 8) (x .0) in leb-true (length w) 8 (y .1)

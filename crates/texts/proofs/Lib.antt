@@ -1,4 +1,7 @@
 pub mod Names
+pub mod InRange
+pub mod Uses
+pub mod ByCase
 pub mod Steps
 pub mod LineSteps
 pub mod Cuts

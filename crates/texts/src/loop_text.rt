@@ -1,0 +1,151 @@
+// The reading of the loop text, but for the question whether each name that is read is known.
+ghost use mathlib.Core.Path.{_≡_};
+ghost use mathlib.Core.Bool.{Bool, true, false, not, _&&_, _||_};
+ghost use mathlib.Core.List.{[], _∷_, _++_};
+ghost use Prim.Native.Nat.{ℕ, _+_, _-_, _≤_, _<_};
+ghost use lib.Dec.{leb};
+ghost use lib.ListN.{length, getD, drop, take};
+ghost use Rattle.std.specs.declared.result.Result.the-variants.{Ok};
+ghost use Rattle.std.specs.declared.option.Option.the-variants.{Some, None};
+ghost use Rattle.model.specs.Shapes.{isName, value as amountOf};
+ghost use Rattle.model.specs.Lines.{linesOf};
+ghost use Rattle.model.specs.Questions.{asked, atLine, each, check, firstNo, unless, noOr, readLines};
+ghost use Rattle.model.specs.LoopText.{checksBy, operationBy, anOperand, aStride, anOffset, useOf, isDefined, sameName, statementRules, readStatements, memoryOperations, definedBy, nameIn, namedBy};
+ghost use Rattle.model.specs.Loop.{load, store, binary, move};
+ghost use Rattle.reader.specs.Seen.{shown};
+ghost use Rattle.reader.specs.Rows.{orNone, Fit};
+ghost use Rattle.texts.specs.Seen.{told, lineStep};
+ghost use Rattle.texts.specs.Statements.{useSeen, actionSeen, answered, inRangeOr, rowTokens, isStore, statementSeen, allSeen, definedSeen, loopFormIn};
+use crate::fault::TextFault;
+use crate::loop_form::find_loop_form;
+use crate::machine_text::wrong_name;
+use crate::name::Name;
+use crate::operands::cell_of;
+use crate::operands::use_of;
+use crate::statement::Action;
+use crate::statement::Statement;
+use crate::statements::Statements;
+use model::Code;
+use model::Operator;
+use reader::lines::line_end;
+use reader::row::Row;
+use reader::row::row_of;
+use reader::row::text_of;
+use reader::shapes::all_between;
+use reader::shapes::same;
+use reader::token::Token;
+use reader::words::is_reserved;
+
+// A sum, a difference or a product.
+fn binary_of(
+    operator: Operator,
+    left: Option<Token<'_>>,
+    right: Option<Token<'_>>,
+) -> Result<Action, TextFault>
+    requires left { ⌜ Fit (orNone (shown left)) ⌝ }
+    requires right { ⌜ Fit (orNone (shown right)) ⌝ }
+    ensures { λ r. ⌜ answered actionSeen r ≡ inRangeOr (anOperand (orNone (shown (left .entry))) ∷ anOperand (orNone (shown (right .entry))) ∷ []) (Ok (binary operator (useOf (orNone (shown (left .entry)))) (useOf (orNone (shown (right .entry)))))) ⌝ }
+{
+    let left = use_of(left)?;
+    let right = use_of(right)?;
+    Ok(Action::Binary(operator, left, right))
+}
+
+fn load_of(stride: Option<Token<'_>>, offset: Option<Token<'_>>) -> Result<Action, TextFault>
+    requires stride { ⌜ Fit (orNone (shown stride)) ⌝ }
+    requires offset { ⌜ Fit (orNone (shown offset)) ⌝ }
+    ensures { λ r. ⌜ answered actionSeen r ≡ inRangeOr (aStride (orNone (shown (stride .entry))) ∷ anOffset (orNone (shown (offset .entry))) ∷ []) (Ok (load (amountOf (orNone (shown (stride .entry)) .bytes)) (amountOf (orNone (shown (offset .entry)) .bytes)))) ⌝ }
+{
+    let cell = cell_of(stride, offset)?;
+    Ok(Action::Load(cell))
+}
+
+fn store_of(
+    value: Option<Token<'_>>,
+    stride: Option<Token<'_>>,
+    offset: Option<Token<'_>>,
+) -> Result<Action, TextFault>
+    requires value { ⌜ Fit (orNone (shown value)) ⌝ }
+    requires stride { ⌜ Fit (orNone (shown stride)) ⌝ }
+    requires offset { ⌜ Fit (orNone (shown offset)) ⌝ }
+    ensures { λ r. ⌜ answered actionSeen r ≡ inRangeOr (anOperand (orNone (shown (value .entry))) ∷ aStride (orNone (shown (stride .entry))) ∷ anOffset (orNone (shown (offset .entry))) ∷ []) (Ok (store (useOf (orNone (shown (value .entry)))) (amountOf (orNone (shown (stride .entry)) .bytes)) (amountOf (orNone (shown (offset .entry)) .bytes)))) ⌝ }
+{
+    let value = use_of(value)?;
+    let cell = cell_of(stride, offset)?;
+    Ok(Action::Store(value, cell))
+}
+
+fn move_of(value: Option<Token<'_>>) -> Result<Action, TextFault>
+    requires { ⌜ Fit (orNone (shown value)) ⌝ }
+    ensures { λ r. ⌜ answered actionSeen r ≡ inRangeOr (anOperand (orNone (shown (value .entry))) ∷ []) (Ok (move (useOf (orNone (shown (value .entry)))))) ⌝ }
+{
+    let value = use_of(value)?;
+    Ok(Action::Move(value))
+}
+
+// What a line of this form does, unless a number is out of range.
+fn action_of(code: Code, row: Row<'_>) -> Result<Action, TextFault>
+    requires t1 { ⌜ Fit (orNone (shown (row .t1))) ⌝ }
+    requires t2 { ⌜ Fit (orNone (shown (row .t2))) ⌝ }
+    requires t3 { ⌜ Fit (orNone (shown (row .t3))) ⌝ }
+    requires t4 { ⌜ Fit (orNone (shown (row .t4))) ⌝ }
+    ensures { λ r. ⌜ answered actionSeen r ≡ inRangeOr (checksBy code (rowTokens (shown (row .entry .t0)) (shown (row .entry .t1)) (shown (row .entry .t2)) (shown (row .entry .t3)) (shown (row .entry .t4)))) (Ok (operationBy code (rowTokens (shown (row .entry .t0)) (shown (row .entry .t1)) (shown (row .entry .t2)) (shown (row .entry .t3)) (shown (row .entry .t4))))) ⌝ }
+{
+    match code {
+        Code::Load => load_of(row.t3, row.t4),
+        Code::Store => store_of(row.t1, row.t2, row.t3),
+        Code::Add => binary_of(Operator::Plus, row.t3, row.t4),
+        Code::Sub => binary_of(Operator::Minus, row.t3, row.t4),
+        Code::Mul => binary_of(Operator::Times, row.t3, row.t4),
+        Code::Move => move_of(row.t3),
+    }
+}
+
+fn is_store(code: Code) -> bool
+    ensures { λ r. ⌜ r ≡ isStore code ⌝ }
+{
+    match code {
+        Code::Store => true,
+        Code::Load | Code::Add | Code::Sub | Code::Mul | Code::Move => false,
+    }
+}
+
+fn defines(s: &Statement, word: &[u8]) -> bool
+    ensures { λ r. ⌜ r ≡ sameName (now (word .entry)) (statementSeen (now (s .entry)) .defines) ⌝ }
+{
+    match s.defines {
+        Some(name) => same(word, name.text()),
+        None => false,
+    }
+}
+
+// Whether a statement defines this name.
+pub fn is_defined(statements: &[Statement], word: &[u8]) -> bool
+    ensures { λ r. ⌜ r ≡ isDefined (allSeen (now (statements .entry))) (now (word .entry)) ⌝ }
+{
+    for s in statements {
+        if defines(s, word) {
+            return true;
+        }
+    }
+    false
+}
+
+// The name that a line of this form defines, unless it is reserved or taken.
+fn name_for(
+    code: Code,
+    t: Option<Token<'_>>,
+    statements: &[Statement],
+) -> Result<Option<Name>, TextFault>
+    requires { ⌜ (isStore code ≡ false → isName (orNone (shown t) .bytes) ≡ true) ⌝ }
+    ensures { λ r. ⌜ answered definedSeen r ≡ unless (noOr 4 (namedBy (allSeen (now (statements .entry))) (Some code) (orNone (shown (t .entry)) ∷ [])) None) (Ok (nameIn (definedBy code (orNone (shown (t .entry)) ∷ [])))) ⌝ }
+{
+    if is_store(code) {
+        return Ok(None);
+    }
+    let word = text_of(t);
+    if is_reserved(word) || is_defined(statements, word) {
+        return Err(wrong_name(t));
+    }
+    Ok(Some(Name::new(word)))
+}
