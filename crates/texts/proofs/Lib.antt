@@ -1,4 +1,5 @@
 pub mod Names
+pub mod Pushes
 pub mod InRange
 pub mod Uses
 pub mod ByCase

@@ -1,9 +1,10 @@
 -- The statements of the code as the definitions have them.
 use mathlib.Core.Bool.{Bool, true, false, cond, _&&_}
-use mathlib.Core.List.{List, [], _∷_, map}
+use mathlib.Core.List.{List, [], _∷_, _++_, map}
 use Prim.Native.Nat.{ℕ}
 use lib.Chars.{codes}
-use lib.ListN.{take}
+use lib.Dec.{leb}
+use lib.ListN.{take, length}
 use Rattle.std.specs.shelf.Text.{sameBytes}
 use Rattle.std.specs.declared.option.Option.{Option}
 use Rattle.std.specs.declared.option.Option.the-variants.{Some, None}
@@ -12,9 +13,9 @@ use Rattle.std.specs.declared.result.Result.the-variants.{Ok, Err}
 use Rattle.model.specs.declared.Code.{Code}
 use Rattle.model.specs.declared.Code.the-variants.{Load as LoadCode, Store as StoreCode, Add, Sub, Mul, Move as MoveCode}
 use Rattle.model.specs.Lines.{Lexeme, isOperand}
-use Rattle.model.specs.Questions.{Refusal, Check, each, noOr, unless}
+use Rattle.model.specs.Questions.{Refusal, Check, each, atLine, noOr, unless}
 use Rattle.model.specs.Loop.{Operation, load, store, binary, move}
-use Rattle.model.specs.LoopText.{Written, numeral, name, Use, Statement}
+use Rattle.model.specs.LoopText.{Written, numeral, name, Use, Statement, memoryOperations}
 use Rattle.reader.specs.Rows.{orNone}
 use Rattle.texts.specs.declared.fault.TextFault.{TextFault}
 use Rattle.texts.specs.declared.name.Name.{Name}
@@ -103,3 +104,7 @@ isStore MoveCode = false
 -- a cell as its stride and its offset
 abbrev pub cellSeen : Cell → ℕ × ℕ
 cellSeen c = (c .stride, c .offset)
+
+-- one statement more, unless there is no room for it
+abbrev pub pushStep : List Statement → Statement → Result (List Statement) Refusal
+pushStep ss s = unless (noOr 6 (atLine (s .line) (leb (length (ss ++ s ∷ [])) 32 && leb (memoryOperations (ss ++ s ∷ [])) 16)) None) (Ok (ss ++ s ∷ []))

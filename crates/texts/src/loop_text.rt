@@ -11,11 +11,11 @@ ghost use Rattle.model.specs.Shapes.{isName, value as amountOf};
 ghost use Rattle.model.specs.Lines.{linesOf};
 ghost use Rattle.model.specs.Questions.{asked, atLine, each, check, firstNo, unless, noOr, readLines};
 ghost use Rattle.model.specs.LoopText.{checksBy, operationBy, anOperand, aStride, anOffset, useOf, isDefined, sameName, statementRules, readStatements, memoryOperations, definedBy, nameIn, namedBy};
-ghost use Rattle.model.specs.Loop.{load, store, binary, move};
+ghost use Rattle.model.specs.Loop.{load, store, binary, move, in-memory as touchesMemory};
 ghost use Rattle.reader.specs.Seen.{shown};
 ghost use Rattle.reader.specs.Rows.{orNone, Fit};
 ghost use Rattle.texts.specs.Seen.{told, lineStep};
-ghost use Rattle.texts.specs.Statements.{useSeen, actionSeen, answered, inRangeOr, rowTokens, isStore, statementSeen, allSeen, definedSeen, loopFormIn};
+ghost use Rattle.texts.specs.Statements.{useSeen, actionSeen, answered, inRangeOr, rowTokens, isStore, statementSeen, allSeen, definedSeen, loopFormIn, pushStep};
 use crate::fault::TextFault;
 use crate::loop_form::find_loop_form;
 use crate::machine_text::wrong_name;
@@ -148,4 +148,36 @@ fn name_for(
         return Err(wrong_name(t));
     }
     Ok(Some(Name::new(word)))
+}
+
+impl Action {
+    // Loads and stores touch memory.
+    pub fn in_memory(&self) -> bool
+        ensures { λ r. ⌜ r ≡ touchesMemory (actionSeen (now (self .entry))) ⌝ }
+    {
+        match self {
+            Action::Load(_) => true,
+            Action::Store(_, _) => true,
+            Action::Binary(_, _, _) => false,
+            Action::Move(_) => false,
+        }
+    }
+}
+
+// One statement more, unless there is no room for it.
+fn push(m: &mut Statements, s: Statement) -> Result<(), TextFault>
+    ensures { λ r. ⌜ told r (allSeen (take (now (m .exit) .count) (now (m .exit) .items))) ≡ pushStep (allSeen (take (now (m .entry) .count) (now (m .entry) .items))) (statementSeen s) ⌝ }
+{
+    let n = m.count;
+    if n >= 32 {
+        return Err(TextFault::ManyOperations { line: s.line });
+    }
+    let touches = m.in_memory + usize::from(s.action.in_memory());
+    if touches > 16 {
+        return Err(TextFault::ManyOperations { line: s.line });
+    }
+    m.items[n] = s;
+    m.count = n + 1;
+    m.in_memory = touches;
+    Ok(())
 }
