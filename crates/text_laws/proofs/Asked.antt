@@ -1,13 +1,13 @@
 -- What a yes says. Assumes nothing.
-use mathlib.Core.Path.{_≡_, refl, sym, ap, _∙_}
-use mathlib.Core.Bool.{Bool, true, false, cond, _&&_}
+use mathlib.Core.Path.{_≡_, refl}
+use mathlib.Core.Bool.{Bool, true, false, cond}
 use mathlib.Core.List.{List, [], _∷_, _++_}
 use Prim.Native.Nat.{ℕ, zero, suc, _<_}
 use native.Mathlib.Omega.{arith}
 use lib.ListN.{length, getD, set}
 use Rattle.std.proofs.shelf.Tests.{and-parts, and-from}
 use Rattle.std.specs.declared.option.Option.the-variants.{Some}
-use Rattle.model.specs.Questions.{Answer, good, bad, Check, check, atLine, each}
+use Rattle.model.specs.Questions.{good, bad, Check, atLine, each}
 use Rattle.model.specs.Shapes.{every}
 
 pub line-yes : (n : ℕ) (b : Bool) → atLine n b ≡ good → b ≡ true

@@ -14,7 +14,7 @@ use Rattle.model.specs.MachineText.{Machine, machineRules, classOf}
 use Rattle.model.specs.LoopText.{Statement, loopRules, statementOf}
 use Rattle.std.specs.Joined.{joined}
 use Rattle.std.proofs.shelf.Lists.{append-assoc, append-nil}
-use Rattle.model.specs.TextLaws.{Yes, FirstNo, after, LinesYes, LinesNo, at-line, at-end, Accepts, Refuses, too-long, later-no, Law, MachineLaw, LoopLaw}
+use Rattle.model.specs.TextLaws.{Yes, FirstNo, after, LinesYes, LinesNo, at-line, at-end, Refuses, too-long, later-no, Law, MachineLaw, LoopLaw}
 
 none-yes : (qs : List Asked) → firstNo qs ≡ None → Yes qs
 none-yes [] e = tt

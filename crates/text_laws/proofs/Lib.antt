@@ -4,3 +4,4 @@ pub mod SoundMachines
 pub mod Definers
 pub mod Statements
 pub mod SoundLoops
+pub mod Formed

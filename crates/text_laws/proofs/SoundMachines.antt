@@ -1,12 +1,12 @@
 -- An accepted machine text gives a sound machine. Assumes nothing.
-use mathlib.Core.Path.{_≡_, refl, sym, ap, _∙_}
-use mathlib.Core.Bool.{Bool, true, false, cond, _&&_}
+use mathlib.Core.Path.{_≡_, refl, sym, _∙_}
+use mathlib.Core.Bool.{Bool, true, false, _&&_}
 use mathlib.Core.Logic.{⊎-elim}
 use mathlib.Core.List.{List, [], _∷_, _++_}
-use Prim.Native.Nat.{ℕ, suc, _+_, _≤_, _<_}
+use Prim.Native.Nat.{ℕ, suc, _+_, _≤_}
 use native.Mathlib.Omega.{arith}
 use lib.Dec.{ltb, leb, eqb}
-use lib.ListN.{length, getD, set}
+use lib.ListN.{length}
 use Rattle.std.specs.shelf.Text.{sameBytes}
 use Rattle.std.specs.declared.option.Option.{Option}
 use Rattle.std.specs.declared.option.Option.the-variants.{Some, None}
@@ -17,10 +17,10 @@ use Rattle.std.proofs.shelf.Ways.{tells}
 use Rattle.model.specs.declared.MachineForm.{MachineForm}
 use Rattle.model.specs.declared.MachineForm.the-variants.{Unit as UnitForm, Op}
 use Rattle.model.specs.declared.Timing.{Timing}
-use Rattle.model.specs.Shapes.{every, between, isSome, isReserved}
-use Rattle.model.specs.Lines.{Line, Lexeme, tokens, tok, amount}
-use Rattle.model.specs.Questions.{good, check, each}
-use Rattle.model.specs.MachineText.{Class, Machine, nothing, machineRules, formOf, classAt, isClass, rangedBy, namedBy, roomyBy, classBy, timingsBy, codeAt, readMachine}
+use Rattle.model.specs.Shapes.{every, between, isSome}
+use Rattle.model.specs.Lines.{Lexeme, tokens, tok, amount}
+use Rattle.model.specs.Questions.{good, check}
+use Rattle.model.specs.MachineText.{Class, Machine, machineRules, formOf, classAt, isClass, rangedBy, namedBy, roomyBy, classBy, timingsBy, codeAt, readMachine}
 use Rattle.model.specs.TextLaws.{Yes}
 use Rattle.model.specs.Soundness.{soundTiming, soundMachine}
 use Rattle.text_laws.proofs.Asked.{line-yes, each-yes, every-append, every-set, every-both}
@@ -49,7 +49,7 @@ said : (n : ℕ) (o : Option Timing) → soundSoFar n o ≡ true → isSome o �
 said n None e h = let z : _≡_ {A = ℕ} 0 1 = cc in absurd (omega arith)
 said n (Some t) e h = e
 
-abbrev counted : Class → Bool
+abbrev pub counted : Class → Bool
 counted c = between 1 8 (c .count)
 
 record Half (m : Machine) : Type 0 where
@@ -64,16 +64,13 @@ module _ (m : Machine) (half : Half m) (ts : List Lexeme) (n : ℕ) where
       let long : length (m .classes ++ classBy (Some UnitForm) ts) ≡ length (m .classes) + 1 = length-append (m .classes) (classBy (Some UnitForm) ts) in
       record {
         timed =
-            every-both (soundSoFar (length (m .classes))) (λ o. true) (soundSoFar (length (m .classes ++ classBy (Some UnitForm) ts)))
-            (λ o s t. more-classes (length (m .classes)) (length (m .classes ++ classBy (Some UnitForm) ts)) (omega arith) o s) (m .timings) (half .timed) (always (m .timings));
+            let now = soundSoFar (length (m .classes)) in
+            every-both now now (soundSoFar (length (m .classes ++ classBy (Some UnitForm) ts)))
+            (λ o s _. more-classes (length (m .classes)) (length (m .classes ++ classBy (Some UnitForm) ts)) (omega arith) o s) (m .timings) (half .timed) (half .timed);
         units = every-append counted (m .classes) (classBy (Some UnitForm) ts) (half .units) (and-from (between 1 8 (amount ts 2)) true e refl);
         few = omega (arith, leb-true (length (m .classes) + 1) 8 h);
         six = half .six;
       }
-    where
-      always : (os : List (Option Timing)) → every (λ o. true) os ≡ true
-      always [] = refl
-      always (o ∷ os) = always os
 
   keep-form : (f : Option MachineForm) → rangedBy f ts ≡ good → namedBy m f ts ≡ good → roomyBy m f n ≡ good → Half (record { classes = m .classes ++ classBy f ts; timings = timingsBy m f ts })
   keep-form None r c y = rw append-nil half

@@ -1,8 +1,8 @@
 -- What the statements of a loop text are known by, once the questions of its lines are answered yes. Assumes nothing.
-use mathlib.Core.Path.{_≡_, refl, sym, ap, _∙_}
+use mathlib.Core.Path.{_≡_, refl}
 use mathlib.Core.Bool.{Bool, true, false, cond, _&&_}
 use mathlib.Core.List.{List, [], _∷_, _++_}
-use Prim.Native.Nat.{ℕ, zero, suc, _+_, _≤_, _<_}
+use Prim.Native.Nat.{ℕ, zero, suc, _+_, _≤_}
 use native.Mathlib.Omega.{arith}
 use lib.Dec.{leb}
 use lib.IntN.{pos, negℤ}
@@ -16,7 +16,7 @@ use Rattle.std.proofs.shelf.Tests.{le-leb, leb-true, and-parts, and-from}
 use Rattle.model.specs.declared.Code.{Code}
 use Rattle.model.specs.declared.Code.the-variants.{Load, Store, Add, Sub, Mul, Move}
 use Rattle.model.specs.Shapes.{between, isSome, value, nameOf, afterAt, Kind, word, number, operand, other}
-use Rattle.model.specs.Lines.{Line, Lexeme, space, run, lexemes, tokens, tok, amount}
+use Rattle.model.specs.Lines.{Lexeme, space, run, lexemes, tokens, tok, amount}
 use Rattle.model.specs.Questions.{good, each}
 use Rattle.model.specs.Loop.{EachOperand, makes, stride-of, offset-of}
 use Rattle.model.specs.LoopText.{Written, numeral, name, Use, Statement, formOf, minus, writtenBy, useAt, operationBy, definedBy, nameIn, statementBy, operandFine, anOperand, aStride, anOffset, checksBy, rangedBy, memoryOperations, loopRules}
