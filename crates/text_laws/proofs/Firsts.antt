@@ -1,20 +1,20 @@
 -- The law of a reading. Assumes nothing.
 use mathlib.Core.Path.{_≡_, refl, sym, ap, subst, _∙_}
 use mathlib.Core.List.{List, [], _∷_, _++_}
-use Prim.Native.Nat.{ℕ}
+use Prim.Native.Nat.{ℕ, _+_}
 use native.Mathlib.Omega.{arith}
 use Rattle.std.specs.declared.option.Option.{Option}
 use Rattle.std.specs.declared.option.Option.the-variants.{Some, None}
 use Rattle.std.specs.declared.result.Result.{Result}
 use Rattle.std.specs.declared.result.Result.the-variants.{Ok, Err}
 use Rattle.model.specs.Questions.{Refusal}
-use Rattle.model.specs.Lines.{Line, linesOf}
+use Rattle.model.specs.Lines.{Line, lines, numbered, linesOf}
 use Rattle.model.specs.Questions.{Answer, good, bad, Asked, asked, noOr, firstNo, Rules, unless, readLines, before, reading}
 use Rattle.model.specs.MachineText.{Machine, machineRules, classOf}
 use Rattle.model.specs.LoopText.{Statement, loopRules, statementOf}
 use Rattle.std.specs.Joined.{joined}
 use Rattle.std.proofs.shelf.Lists.{append-assoc, append-nil}
-use Rattle.model.specs.TextLaws.{Yes, FirstNo, after, LinesYes, LinesNo, at-line, at-end, Accepts, Refuses, too-long, later-no, Law, MachineLaw, LoopLaw}
+use Rattle.model.specs.TextLaws.{Yes, FirstNo, after, LinesYes, LinesNo, at-line, at-end, Refuses, too-long, later-no, Law, MachineLaw, LoopLaw}
 
 none-yes : (qs : List Asked) → firstNo qs ≡ None → Yes qs
 none-yes [] e = tt
@@ -138,6 +138,21 @@ module _ {R : Type 0} (k : Rules R) where
     refuses = λ text f e. by-why text f (unless-err (readLines k (k .start) (linesOf text)) (firstNo (before text)) f e);
     refused = back;
   }
+
+-- What a line keeps if its questions are answered yes is kept by the lines of an accepted text, numbered from 1.
+module _ {R : Type 0} (k : Rules R) (P : ℕ → R → Type 0)
+    (keeps : (n : ℕ) (r : R) (bytes : List ℕ) → P n r → Yes (k .asks r (record { number = n; bytes = bytes })) → P (n + 1) (k .adds r (record { number = n; bytes = bytes }))) where
+  kept : (ls : List (List ℕ)) (n : ℕ) (r : R) → P n r → LinesYes k r (numbered n ls) → (e : ℕ) × P e (after k r (numbered n ls))
+  kept [] n r h y = (n, h)
+  kept (l ∷ ls) n r h y =
+      let line : Line = record { number = n; bytes = l } in
+      kept ls (n + 1) (k .adds r line) (keeps n r l h (y [] line (numbered (n + 1) ls) refl)) (yes-tail k r line (numbered (n + 1) ls) y)
+
+  pub accepted-keeps : P 1 (k .start) → (text : List ℕ) (r : R) → reading k text ≡ Ok r → ((e : ℕ) × P e r) × Yes (k .ends r)
+  accepted-keeps h text r e =
+      let a = law k .accepts text r e in
+      let end = kept (lines text) 1 (k .start) h (a .0 .each-line) in
+      ((end .0, subst (P (end .0)) (sym (a .1)) (end .1)), subst (λ x. Yes (k .ends x)) (sym (a .1)) (a .0 .at-last))
 
 -- what the lines add to the classes, and to the statements
 classes-after : (ls : List Line) (m : Machine) → after machineRules m ls .classes ≡ m .classes ++ joined classOf ls

@@ -1,18 +1,14 @@
 -- Names and classes. Assumes nothing.
-use mathlib.Core.Path.{_≡_, refl, sym, ap, _∙_}
-use mathlib.Core.Bool.{Bool, true, false, cond}
-use mathlib.Core.Logic.{⊎-elim}
-use mathlib.Core.List.{List, [], _∷_, _++_, map}
-use Prim.Native.Nat.{ℕ, suc, _+_, _≤_, _<_}
+use mathlib.Core.Path.{_≡_, sym, ap, _∙_}
+use mathlib.Core.Bool.{true, false, cond}
+use mathlib.Core.List.{List, [], _∷_, _++_}
+use Prim.Native.Nat.{ℕ, _+_, _≤_, _<_}
 use native.Mathlib.Omega.{arith}
-use lib.Dec.{ltb}
 use lib.ListN.{length, take, drop, getD, set}
 use Rattle.std.specs.shelf.Text.{sameBytes}
 use Rattle.std.proofs.shelf.Lists.{at-drop-more, at-drop-all, take-more, take-more-set}
-use Rattle.std.proofs.shelf.Tests.{lt-ltb, cases-bool}
-use Rattle.std.proofs.shelf.Ways.{tells}
 use Rattle.texts.specs.declared.entries.Class.{Class as OwnClass}
-use Rattle.model.specs.MachineText.{Class, classAt, isClass}
+use Rattle.model.specs.MachineText.{classAt}
 use Rattle.texts.specs.Seen.{nameSeen, classesSeen}
 
 pub copy-more : (bs w : List ℕ) (i : ℕ) → i < length bs → i < length w → take i bs ≡ take i w → take (i + 1) (set bs i (getD w i 0)) ≡ take (i + 1) w
@@ -33,11 +29,3 @@ module _ (w : List ℕ) (cs : List OwnClass) (i n : ℕ) (inv : n ≡ i + classA
 
     pub miss : sameBytes w (nameSeen (x .name)) ≡ false → n ≡ i + 1 + classAt (classesSeen (drop (i + 1) cs)) w
     miss t = let z : classAt (classesSeen (drop i cs)) w ≡ 1 + classAt (classesSeen (drop (i + 1) cs)) w = one ∙ simp t in omega arith
-
-pub is-class : (cs : List Class) (w : List ℕ) → isClass cs w ≡ ltb (classAt cs w) (length cs)
-is-class [] w = refl
-is-class (c ∷ cs) w =
-    ⊎-elim
-    (λ (e : sameBytes w (c .name) ≡ true). simp e (sym (lt-ltb 0 (suc (length cs)) (omega arith))))
-    (λ (e : sameBytes w (c .name) ≡ false). let h = is-class cs w in simp e (grind (arith, tells)))
-    (cases-bool (sameBytes w (c .name)))

@@ -18,7 +18,7 @@ use Rattle.model.specs.Lines.{Lexeme}
 use Rattle.model.specs.Questions.{Refusal}
 use Rattle.model.specs.declared.Code.{Code}
 use Rattle.model.specs.declared.Code.the-variants.{Load, Store, Add, Sub, Mul, Move}
-use Rattle.texts.proofs.Names.{is-class}
+use Rattle.text_laws.proofs.SoundMachines.{is-class}
 use Rattle.model.specs.Shapes.{between, value, isReserved, isSome, codeOf}
 use Rattle.model.specs.MachineText.{Class, Machine, isClass, classAt, numberOf}
 use Rattle.texts.specs.Seen.{unitStep, opStep, nameSeen, classSeen, classesSeen}

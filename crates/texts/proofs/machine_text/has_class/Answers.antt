@@ -3,7 +3,7 @@ use native.Mathlib.Omega.{arith}
 use lib.Dec.{ltb}
 use lib.ListN.{length, length-map}
 use Rattle.texts.specs.Seen.{classSeen, classesSeen}
-use Rattle.texts.proofs.Names.{is-class}
+use Rattle.text_laws.proofs.SoundMachines.{is-class}
 use Rattle.texts.proofs.machine_text.has_class.Needs as need
 
 pub returns : need.returns
