@@ -16,7 +16,7 @@ use Rattle.std.proofs.shelf.Tests.{le-leb, leb-true, and-parts, and-from}
 use Rattle.model.specs.declared.Code.{Code}
 use Rattle.model.specs.declared.Code.the-variants.{Load, Store, Add, Sub, Mul, Move}
 use Rattle.model.specs.Shapes.{between, isSome, value, nameOf, afterAt, Kind, word, number, operand, other}
-use Rattle.model.specs.Lines.{Lexeme, space, run, lexemes, tokens, tok, amount}
+use Rattle.model.specs.Lines.{Lexeme, space, run, lexemes, tokens, tok, amount, isDigits}
 use Rattle.model.specs.Questions.{good, each}
 use Rattle.model.specs.Loop.{EachOperand, makes, stride-of, offset-of}
 use Rattle.model.specs.LoopText.{Written, numeral, name, Use, Statement, formOf, minus, writtenBy, useAt, operationBy, definedBy, nameIn, statementBy, operandFine, anOperand, aStride, anOffset, checksBy, rangedBy, memoryOperations, loopRules}
@@ -75,8 +75,8 @@ module _ (n : ℕ) (ts : List Lexeme) (on : All (λ t. t .line ≡ n) ts) where
   use-fine : (i : ℕ) → operandFine (tok ts i .kind) (tok ts i .bytes) ≡ true → FineUse n (useAt ts i)
   use-fine i e = (on-line ts n i on e, written (tok ts i .kind) (tok ts i .bytes) e)
 
-  cell-fine : (i j : ℕ) → leb (amount ts i) 16 ≡ true → leb (amount ts j) 65535 ≡ true → soundCell (amount ts i) (amount ts j) ≡ true
-  cell-fine i j e f = and-from (leb (amount ts i) 16) (leb (amount ts j) 65535) e f
+  cell-fine : (i j : ℕ) → aStride (tok ts i) .fine ≡ true → anOffset (tok ts j) .fine ≡ true → soundCell (amount ts i) (amount ts j) ≡ true
+  cell-fine i j e f = and-from (leb (amount ts i) 16) (leb (amount ts j) 65535) (and-parts (isDigits (tok ts i .kind)) _ e .1) (and-parts (isDigits (tok ts j .kind)) _ f .1)
 
   two-fine : each (anOperand (tok ts 3) ∷ anOperand (tok ts 4) ∷ []) ≡ good → FineUse n (useAt ts 3) × FineUse n (useAt ts 4)
   two-fine r =

@@ -1,4 +1,5 @@
 pub mod Names
+pub mod LoopSteps
 pub mod Pushes
 pub mod InRange
 pub mod Uses

@@ -13,9 +13,9 @@ use Rattle.std.specs.declared.result.Result.the-variants.{Ok, Err}
 use Rattle.model.specs.declared.Code.{Code}
 use Rattle.model.specs.declared.Code.the-variants.{Load as LoadCode, Store as StoreCode, Add, Sub, Mul, Move as MoveCode}
 use Rattle.model.specs.Lines.{Lexeme, isOperand}
-use Rattle.model.specs.Questions.{Refusal, Check, each, atLine, noOr, unless}
+use Rattle.model.specs.Questions.{Refusal, Check, asked, each, atLine, firstNo, noOr, unless}
 use Rattle.model.specs.Loop.{Operation, load, store, binary, move}
-use Rattle.model.specs.LoopText.{Written, numeral, name, Use, Statement, memoryOperations}
+use Rattle.model.specs.LoopText.{Written, numeral, name, Use, Statement, memoryOperations, checksBy, namedBy, statementBy}
 use Rattle.reader.specs.Rows.{orNone}
 use Rattle.texts.specs.declared.fault.TextFault.{TextFault}
 use Rattle.texts.specs.declared.name.Name.{Name}
@@ -108,3 +108,14 @@ cellSeen c = (c .stride, c .offset)
 -- one statement more, unless there is no room for it
 abbrev pub pushStep : List Statement → Statement → Result (List Statement) Refusal
 pushStep ss s = unless (noOr 6 (atLine (s .line) (leb (length (ss ++ s ∷ [])) 32 && leb (memoryOperations (ss ++ s ∷ [])) 16)) None) (Ok (ss ++ s ∷ []))
+
+-- a line of this form, after some statements
+abbrev pub formStep : List Statement → ℕ → Code → List Lexeme → Result (List Statement) Refusal
+formStep ss n c ts =
+    unless
+    (firstNo
+    (asked 3 (each (checksBy c ts))
+    ∷ asked 4 (namedBy ss (Some c) ts)
+    ∷ asked 6 (atLine n (leb (length (ss ++ statementBy n (Some c) ts)) 32 && leb (memoryOperations (ss ++ statementBy n (Some c) ts)) 16))
+    ∷ []))
+    (Ok (ss ++ statementBy n (Some c) ts))

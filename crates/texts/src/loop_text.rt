@@ -15,7 +15,7 @@ ghost use Rattle.model.specs.Loop.{load, store, binary, move, in-memory as touc
 ghost use Rattle.reader.specs.Seen.{shown};
 ghost use Rattle.reader.specs.Rows.{orNone, Fit};
 ghost use Rattle.texts.specs.Seen.{told, lineStep};
-ghost use Rattle.texts.specs.Statements.{useSeen, actionSeen, answered, inRangeOr, rowTokens, isStore, statementSeen, allSeen, definedSeen, loopFormIn, pushStep};
+ghost use Rattle.texts.specs.Statements.{useSeen, actionSeen, answered, inRangeOr, rowTokens, isStore, statementSeen, allSeen, definedSeen, loopFormIn, pushStep, formStep};
 use crate::fault::TextFault;
 use crate::loop_form::find_loop_form;
 use crate::machine_text::wrong_name;
@@ -180,4 +180,44 @@ fn push(m: &mut Statements, s: Statement) -> Result<(), TextFault>
     m.count = n + 1;
     m.in_memory = touches;
     Ok(())
+}
+
+// A line that has a form.
+fn form_line(m: &mut Statements, number: usize, code: Code, row: Row<'_>) -> Result<(), TextFault>
+    requires t1 { ⌜ Fit (orNone (shown (row .t1))) ⌝ }
+    requires t2 { ⌜ Fit (orNone (shown (row .t2))) ⌝ }
+    requires t3 { ⌜ Fit (orNone (shown (row .t3))) ⌝ }
+    requires t4 { ⌜ Fit (orNone (shown (row .t4))) ⌝ }
+    requires name { ⌜ (isStore code ≡ false → isName (orNone (shown (row .t0)) .bytes) ≡ true) ⌝ }
+    ensures { λ r. ⌜ told r (allSeen (take (now (m .exit) .count) (now (m .exit) .items))) ≡ formStep (allSeen (take (now (m .entry) .count) (now (m .entry) .items))) number code (rowTokens (shown (row .entry .t0)) (shown (row .entry .t1)) (shown (row .entry .t2)) (shown (row .entry .t3)) (shown (row .entry .t4))) ⌝ }
+{
+    let action = action_of(code, row)?;
+    let defines = name_for(code, row.t0, &m.items[0..m.count])?;
+    push(
+        m,
+        Statement {
+            line: number,
+            defines,
+            action,
+        },
+    )
+}
+
+// One line of a loop text.
+fn loop_line(m: &mut Statements, line: &[u8], number: usize) -> Result<(), TextFault>
+    ensures { λ r. ⌜ told r (allSeen (take (now (m .exit) .count) (now (m .exit) .items))) ≡ lineStep statementRules (allSeen (take (now (m .entry) .count) (now (m .entry) .items))) (record { number = number; bytes = now (line .entry) }) ⌝ }
+{
+    if !all_between(line, 32, 126) {
+        return Err(TextFault::Unprintable { line: number });
+    }
+    let row = row_of(line, number);
+    match find_loop_form(row) {
+        Some(code) => form_line(m, number, code, row),
+        None => {
+            if row.t0.is_none() {
+                return Ok(());
+            }
+            Err(TextFault::NoForm { line: number })
+        }
+    }
 }

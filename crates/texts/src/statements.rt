@@ -12,5 +12,6 @@ pub struct Statements {
     pub count: usize,
     pub in_memory: usize,
     ghost few: { count ≤ 32 },
+    ghost light: { «in_memory» ≤ 16 },
     ghost counted: { «in_memory» ≡ memoryOperations (allSeen (take count items)) },
 }

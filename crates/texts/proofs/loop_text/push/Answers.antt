@@ -28,10 +28,9 @@ returns-then-touches-gt16 c =
 pub ghost-m : need.ghost-m
 ghost-m c =
     let m = c .args .m .now in
-    let long : length (m .items) ≡ 32 = omega arith in (
-      omega (arith, c .if-n-ge32 .left),
-      (counts-on (m .items) (m .count) (m .«in_memory») (c .from .result) (c .in-memory .result) (c .args .s) (omega arith) (m .counted) (c .from .ensures) (c .in-memory .ensures) (c .if-n-ge32 .left) (omega (arith, c .if-n-ge32 .left)), tt),
-    )
+    let long : length (m .items) ≡ 32 = omega arith in
+    let counted = counts-on (m .items) (m .count) (m .«in_memory») (c .from .result) (c .in-memory .result) (c .args .s) (omega arith) (m .counted) (c .from .ensures) (c .in-memory .ensures) (c .if-n-ge32 .left) (omega (arith, c .if-n-ge32 .left)) in
+    (omega (arith, c .if-n-ge32 .left), (omega (arith, c .if-touches-gt16 .left), (counted, tt)))
 
 pub returns : need.returns
 returns c =
