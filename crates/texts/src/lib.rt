@@ -8,5 +8,6 @@ pub mod machine_text;
 pub mod name;
 pub mod naming;
 pub mod operands;
+pub mod readings;
 pub mod statement;
 pub mod statements;

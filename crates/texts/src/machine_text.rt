@@ -238,7 +238,7 @@ fn all_timed(timings: &[Option<Timing>]) -> bool
 }
 
 // The lines, and the question at the end.
-fn machine_lines(m: &mut Entries, text: &[u8]) -> Result<(), TextFault>
+pub fn machine_lines(m: &mut Entries, text: &[u8]) -> Result<(), TextFault>
     requires { ⌜ length (now text) ≤ 4096 ⌝ }
     ensures { λ r. ⌜ told r (entriesSeen (now (m .exit))) ≡ readLines machineRules (entriesSeen (now (m .entry))) (linesOf (now (text .entry))) ⌝ }
 {

@@ -2,7 +2,7 @@ use mathlib.Core.Path.{_≡_, refl, sym, ap, _∙_}
 use mathlib.Core.Bool.{true}
 use Prim.Native.Nat.{_≤_, _<_}
 use native.Mathlib.Omega.{arith}
-use lib.ListN.{length}
+use lib.ListN.{length, length-set}
 use Rattle.texts.proofs.Pushes.{full, too-many, room, counts-on, pushed}
 use Rattle.texts.proofs.loop_text.push.Needs as need
 
@@ -30,7 +30,7 @@ ghost-m c =
     let m = c .args .m .now in
     let long : length (m .items) ≡ 32 = omega arith in
     let counted = counts-on (m .items) (m .count) (m .«in_memory») (c .from .result) (c .in-memory .result) (c .args .s) (omega arith) (m .counted) (c .from .ensures) (c .in-memory .ensures) (c .if-n-ge32 .left) (omega (arith, c .if-n-ge32 .left)) in
-    (omega (arith, c .if-n-ge32 .left), (omega (arith, c .if-touches-gt16 .left), (counted, tt)))
+    (length-set (m .items) (m .count) (c .args .s) ∙ long, (omega (arith, c .if-n-ge32 .left), (omega (arith, c .if-touches-gt16 .left), (counted, tt))))
 
 pub returns : need.returns
 returns c =
