@@ -1,3 +1,4 @@
 pub mod Loop
 pub mod Edges
 pub mod Schedule
+pub mod MemoryOrder
