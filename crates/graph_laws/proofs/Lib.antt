@@ -9,3 +9,4 @@ pub mod Lower
 pub mod Upper
 pub mod Turn
 pub mod Sequence
+pub mod Fits

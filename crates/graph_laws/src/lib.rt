@@ -1,5 +1,5 @@
 // The functions that carry the laws of edges, circuits and the minimum: each law stands in a contract.
-ghost use Rattle.model.specs.GraphLaws.{ListMeansRules, EdgesLeadForward, DelaysAreShort, NoStandingCircuit, FixedIsHeight, ChangeGivesCircuit, CircuitTellsMinimum, NoSmallerInterval, ClassExcludes, CircuitExcludes, AtMostSequential, SequentialIsSchedule};
+ghost use Rattle.model.specs.GraphLaws.{ListMeansRules, EdgesLeadForward, DelaysAreShort, NoStandingCircuit, FixedIsHeight, ChangeGivesCircuit, CircuitTellsMinimum, NoSmallerInterval, ClassExcludes, CircuitExcludes, AtMostSequential, SequentialIsSchedule, EdgesFit};
 ghost use Rattle.model.specs.MemoryOrder.{MemoryInOrder, OperandsLanded};
 
 // The edge list has the edges of the rules, and no others.
@@ -96,6 +96,13 @@ pub fn at_most_sequential() -> u8
 // The sequential schedule is a schedule.
 pub fn sequential_is_schedule() -> u8
     ensures { λ _. ⌜ SequentialIsSchedule ⌝ }
+{
+    0
+}
+
+// The edges of a loop are within the limits of the code.
+pub fn edges_fit() -> u8
+    ensures { λ _. ⌜ EdgesFit ⌝ }
 {
     0
 }

@@ -12,6 +12,7 @@ use Rattle.model.specs.Schedule.{Schedule, IsSchedule, row-uses, sequential}
 use Rattle.model.specs.Walks.{edge, delays, distances, Circuit, Simple, Within, Forward}
 use Rattle.model.specs.Minimum.{NoneAbove, RecurrenceMinimum, IsMinimum, ClassWitness, CircuitWitness, IsHeight}
 use Rattle.model.specs.Relaxation.{rounds, Fixed}
+use Rattle.model.specs.Limits.{GraphFits}
 
 abbrev pub Among : {A : Type 0} → A → List A → Type 0
 Among x [] = ⊥
@@ -95,3 +96,7 @@ AtMostSequential = (ops : Loop) (hw : Hardware) (classes k : ℕ) → WellFormed
 -- The sequential schedule is one.
 abbrev pub SequentialIsSchedule : Type 0
 SequentialIsSchedule = (ops : Loop) (hw : Hardware) → WellFormed ops hw → IsSchedule ops hw (sequential ops hw)
+
+-- The edges of a loop are within the limits of the code.
+abbrev pub EdgesFit : Type 0
+EdgesFit = (ops : Loop) (hw : Hardware) → WellFormed ops hw → GraphFits (length ops) (edges ops hw)

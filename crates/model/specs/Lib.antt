@@ -5,4 +5,5 @@ pub mod MemoryOrder
 pub mod Walks
 pub mod Minimum
 pub mod Relaxation
+pub mod Limits
 pub mod GraphLaws

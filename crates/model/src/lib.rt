@@ -27,3 +27,11 @@ pub struct Edge {
     pub delay: usize,
     pub distance: usize,
 }
+
+// What an operation takes of the machine: a unit of its class for `busy` cycles, and `latency` cycles until its result lands.
+#[derive(Clone, Copy, PartialEq, Eq, Debug)]
+pub struct Usage {
+    pub class: usize,
+    pub latency: usize,
+    pub busy: usize,
+}
