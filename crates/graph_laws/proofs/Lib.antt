@@ -10,3 +10,8 @@ pub mod Upper
 pub mod Turn
 pub mod Sequence
 pub mod Fits
+pub mod Steps
+pub mod Trail
+pub mod Again
+pub mod Whole
+pub mod Sums
