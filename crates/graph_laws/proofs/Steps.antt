@@ -1,6 +1,6 @@
 -- One more edge of a round.
 use Prim.Native.Nat.{ℕ, zero, suc, max, _+_, _-_, _*_, _<_, _≤_}
-use mathlib.Core.Path.{_≡_, refl, sym, ap, fun-ext, _∙_}
+use mathlib.Core.Path.{_≡_, refl, sym, ap, subst, subst₂, fun-ext, _∙_}
 use mathlib.Core.Bool.{cond}
 use mathlib.Core.List.{List, [], _∷_, _++_}
 use mathlib.Core.Logic.{_⊎_, inl, inr}
@@ -14,16 +14,20 @@ use Rattle.std.proofs.shelf.Lists.{take-more, getD-set-same, getD-set-other}
 use Rattle.std.proofs.shelf.Elements.{all-getD, all-weaker}
 use Rattle.std.proofs.shelf.Tests.{cases-eq, cases-lt, eq-eqb, ne-eqb}
 use Rattle.model.specs.declared.Edge.{Edge}
-use Rattle.model.specs.Walks.{edge, Within}
+use Rattle.model.specs.Walks.{edge, Walk, delays, distances, froms, Within}
 use Rattle.model.specs.Relaxation.{offer, round, rounds, Fixed}
-use Rattle.model.specs.Minimum.{NoneAbove, RecurrenceMinimum, IsHeight}
+use Rattle.model.specs.Minimum.{NoneAbove, Standing, RecurrenceMinimum, IsHeight}
+use Rattle.graph_laws.proofs.Pigeons.{pigeons}
 use Rattle.graph_laws.proofs.Cut.{change-gives-circuit}
 use Rattle.graph_laws.proofs.Relaxed.{round-keeps, round-came, fixed-is-height}
 use Rattle.model.specs.Limits.{EdgeFits}
-use Rattle.graph_laws.specs.Trails.{value, Offers, Marked}
+use Rattle.graph_laws.specs.Trails.{value, Offers, Marked, Traced}
 
 pub fits-at : (n : ℕ) (es : List Edge) (i : ℕ) → All (EdgeFits n) es → i < length es → EdgeFits n (edge es i)
 fits-at n es i s l = all-getD (EdgeFits n) es i _ l s
+
+pub widened : (n m : ℕ) (es : List Edge) → n ≤ m → All (EdgeFits n) es → All (EdgeFits m) es
+widened n m es l h = all-weaker (EdgeFits n) (EdgeFits m) (λ e f. record { from = omega (arith, f .from); to = omega (arith, f .to); delay = f .delay; distance = f .distance }) es h
 
 pub all-within : (n : ℕ) (es : List Edge) → All (EdgeFits n) es → Within n es
 all-within n es h = all-weaker (EdgeFits n) (λ e. (e .from < n) × (e .to < n)) (λ e f. (f .from, f .to)) es h
@@ -57,6 +61,14 @@ module _ (k i : ℕ) (es : List Edge) (old new : List ℕ) (l : i < length es)
     | inl e ↦ rw (next u, eq-eqb _ _ e) (omega (arith, ap (λ x. getD new x 0) e))
     | inr n ↦ rw (next u, ne-eqb _ _ n)
   ]
+
+pub zeros : (n u : ℕ) → _≡_ {A = ℕ} (getD (replicate n 0) u 0) 0
+zeros zero u = refl
+zeros (suc n) zero = refl
+zeros (suc n) (suc u) = zeros n u
+
+pub unmarked : (es : List Edge) (k : ℕ) (h : ℕ → ℕ) (n u : ℕ) → Marked es k h h u (getD (replicate n 0) u 0)
+unmarked es k h n u = rw (zeros n u) (record { same = λ _. refl; took = λ s. absurd (omega arith); rose = λ s. absurd (omega arith) })
 
 -- The marks of a round, edge by edge.
 module _ (k i : ℕ) (es : List Edge) (old new marks : List ℕ) (l : i < length es)
@@ -94,6 +106,20 @@ module _ (k r : ℕ) (es : List Edge) (old new : List ℕ) (inv : (u : ℕ) → 
   unfolding rounds
   one-more u = rw add-one (step u ∙ ap (λ h. round k es h u) (fun-ext inv))
 
+  pub row-traced : (marks : List ℕ) (rows : List (List ℕ)) → ((u : ℕ) → Marked es k (value old) (value new) u (getD marks u 0)) → r < length rows → Traced es k r rows →
+      Traced es k (r + 1) (set rows r marks)
+  unfolding rounds
+  row-traced marks rows marked room before s l u = elim (cases-eq s r) [
+    | inl e ↦
+        let here : getD (set rows r marks) s [] ≡ marks = ap (λ x. getD (set rows r marks) x []) e ∙ getD-set-same rows r marks [] room in
+        let old-is : value old ≡ rounds k es s = fun-ext inv ∙ ap (rounds k es) (sym e) in
+        let new-is : value new ≡ rounds k es (suc s) = fun-ext (λ v. step v ∙ ap (λ h. round k es h v) old-is) in
+        rw here (subst₂ (λ h g. Marked es k h g u (getD marks u 0)) old-is new-is (marked u))
+    | inr n ↦
+        let here : getD (set rows r marks) s [] ≡ getD rows s [] = getD-set-other rows r s marks [] n in
+        rw here (before s (omega arith) u)
+  ]
+
   pub settled : ((u : ℕ) → getD new u 0 ≡ getD old u 0) → NoneAbove es k × ((u : ℕ) → IsHeight es k u (value old u))
   unfolding rounds
   settled same =
@@ -105,11 +131,6 @@ module _ (k r : ℕ) (es : List Edge) (old new : List ℕ) (inv : (u : ℕ) → 
   rose u n =
       let e : (r + 1) - 1 ≡ r = omega arith in
       rw e (omega (arith, n, one-more u, inv u, step u, round-keeps k (value old) es u))
-
-pub zeros : (n u : ℕ) → _≡_ {A = ℕ} (getD (replicate n 0) u 0) 0
-zeros zero u = refl
-zeros (suc n) zero = refl
-zeros (suc n) (suc u) = zeros n u
 
 rounds-low : (k n : ℕ) (es : List Edge) → All (EdgeFits n) es → (r u : ℕ) → rounds k es r u ≤ 8 * r
 unfolding rounds
@@ -132,3 +153,30 @@ above-here es k (suc r) u inside some better none =
     let e : suc r - 1 ≡ r = omega arith in
     let c = change-gives-circuit es k (suc r) inside r u (omega arith) (rw e at better) in
     omega (arith, c .3, none (c .0) (c .1))
+
+-- The same at 256, which is more than the delays of a simple circuit: some circuit has no distance.
+module _ (es : List Edge) (n : ℕ) (fit : All (EdgeFits n) es) where
+  delays-most : (u v : ℕ) (xs : List ℕ) → Walk es u xs v → delays es xs ≤ 8 * length xs
+  delays-most u v [] w = omega arith
+  delays-most u v (x ∷ xs) w = omega (arith, fits-at n es x fit (w .0) .delay, delays-most (edge es x .to) v xs (w .2))
+
+  froms-below : (u v : ℕ) (xs : List ℕ) → Walk es u xs v → All (λ y. y < n) (froms es xs)
+  froms-below u v [] w = tt
+  froms-below u v (x ∷ xs) w = (fits-at n es x fit (w .0) .from, froms-below (edge es x .to) v xs (w .2))
+
+  length-froms : (xs : List ℕ) → length (froms es xs) ≡ length xs
+  length-froms [] = refl
+  length-froms (x ∷ xs) = ap suc (length-froms xs)
+
+  pub stands-still : (u : ℕ) → 0 < n → n ≤ 32 → rounds 256 es (n - 1) u < rounds 256 es n u → Standing es
+  stands-still u some few better =
+      let e : suc (n - 1) ≡ n = omega arith in
+      let c = change-gives-circuit es 256 n (all-within n es fit) (n - 1) u (omega arith) (subst (λ m. rounds 256 es (n - 1) u < rounds 256 es m u) (sym e) better) in
+      let xs : List ℕ = c .0 in
+      let most : delays es xs ≤ 256 = omega (
+        arith,
+        delays-most (c .1 .1 .0) (c .1 .1 .0) xs (c .1 .1 .1),
+        pigeons n (froms es xs) (c .2) (froms-below (c .1 .1 .0) (c .1 .1 .0) xs (c .1 .1 .1)),
+        length-froms xs,
+      ) in
+      (xs, c .1, omega (arith, c .3), omega (arith, c .3))

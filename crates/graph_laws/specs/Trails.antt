@@ -21,6 +21,10 @@ pub record Marked (es : List Edge) (k : ℕ) (h g : ℕ → ℕ) (u mark : ℕ) 
   pub took : 0 < mark → Offers es k h u (g u) (mark - 1)
   pub rose : 0 < mark → h u < g u
 
+-- The marks of each of the first n rounds.
+abbrev pub Traced : List Edge → ℕ → ℕ → List (List ℕ) → Type 0
+Traced es k n rows = (r : ℕ) → r < n → (u : ℕ) → Marked es k (rounds k es r) (rounds k es (suc r)) u (getD (getD rows r []) u 0)
+
 -- A walk from u of at most r edges whose sum is what r rounds found.
 pub record BestWalk (es : List Edge) (k r u : ℕ) (xs : List ℕ) : Type 0 where
   pub end : ℕ

@@ -34,6 +34,10 @@ resource-minimum hw n classes = greatest (own-minimum hw n) classes
 abbrev pub NoneAbove : List Edge → ℕ → Type 0
 NoneAbove es k = (xs : List ℕ) → Circuit es xs → delays es xs ≤ distances es xs * k
 
+-- Some circuit has delays and no distance: it is above every k.
+abbrev pub Standing : List Edge → Type 0
+Standing es = (xs : List ℕ) × Circuit es xs × (distances es xs ≡ 0) × (0 < delays es xs)
+
 -- The least k from 1 of which P holds.
 abbrev pub Least : (ℕ → Type 0) → ℕ → Type 0
 Least P k = (1 ≤ k) × P k × ((m : ℕ) → 1 ≤ m → P m → k ≤ m)
