@@ -1,5 +1,7 @@
 // The minimum of a loop with its witness, and heights, by one relaxation over the edges.
 
+mod circuit;
+mod path;
 mod relax;
 
-pub use relax::Settled;
+pub use path::Path;
