@@ -15,3 +15,4 @@ pub mod Trail
 pub mod Again
 pub mod Whole
 pub mod Sums
+pub mod Top

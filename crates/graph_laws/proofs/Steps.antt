@@ -14,7 +14,7 @@ use Rattle.std.proofs.shelf.Lists.{take-more, getD-set-same, getD-set-other}
 use Rattle.std.proofs.shelf.Elements.{all-getD, all-weaker}
 use Rattle.std.proofs.shelf.Tests.{cases-eq, cases-lt, eq-eqb, ne-eqb}
 use Rattle.model.specs.declared.Edge.{Edge}
-use Rattle.model.specs.Walks.{edge, Walk, delays, distances, froms, Within}
+use Rattle.model.specs.Walks.{edge, Walk, delays, distances, froms, Circuit, Within}
 use Rattle.model.specs.Relaxation.{offer, round, rounds, Fixed}
 use Rattle.model.specs.Minimum.{NoneAbove, Standing, RecurrenceMinimum, IsHeight}
 use Rattle.graph_laws.proofs.Pigeons.{pigeons}
@@ -153,6 +153,13 @@ above-here es k (suc r) u inside some better none =
     let e : suc r - 1 ≡ r = omega arith in
     let c = change-gives-circuit es k (suc r) inside r u (omega arith) (rw e at better) in
     omega (arith, c .3, none (c .0) (c .1))
+
+-- And the circuit.
+pub circuit-here : (es : List Edge) (k n u : ℕ) → Within n es → 0 < n → rounds k es (n - 1) u < rounds k es n u → (xs : List ℕ) × Circuit es xs × (distances es xs * k < delays es xs)
+circuit-here es k n u inside some better =
+    let e : suc (n - 1) ≡ n = omega arith in
+    let c = change-gives-circuit es k n inside (n - 1) u (omega arith) (subst (λ m. rounds k es (n - 1) u < rounds k es m u) (sym e) better) in
+    (c .0, c .1, c .3)
 
 -- The same at 256, which is more than the delays of a simple circuit: some circuit has no distance.
 module _ (es : List Edge) (n : ℕ) (fit : All (EdgeFits n) es) where

@@ -74,3 +74,13 @@ pub record IsHeight (es : List Edge) (k u h : ℕ) : Type 0 where
   pub best : List ℕ
   pub walk : Walk es u best end
   pub attained : delays es best ≡ h + distances es best * k
+
+-- What is named as evidence: a class, or a circuit by the numbers of its edges.
+pub data Evidence : Type 0 where
+  by-class : ℕ → Evidence
+  by-circuit : List ℕ → Evidence
+
+-- A class where the resource minimum reaches k, and a circuit otherwise.
+abbrev pub IsEvidence : List Edge → Hardware → ℕ → ℕ → ℕ → Evidence → Type 0
+IsEvidence es hw n classes k (by-class u) = ClassWitness hw n classes k u
+IsEvidence es hw n classes k (by-circuit xs) = (resource-minimum hw n classes < k) × CircuitWitness es k xs
