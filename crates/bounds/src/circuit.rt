@@ -7,11 +7,28 @@ ghost use Rattle.model.specs.Limits.{GraphFits};
 ghost use Rattle.model.specs.Relaxation.{rounds};
 ghost use Rattle.model.specs.Walks.{Within, Walk, edge};
 ghost use Rattle.model.specs.Minimum.{CircuitWitness};
-ghost use Rattle.graph_laws.specs.Trails.{BestWalk, Repeats};
+ghost use Rattle.graph_laws.specs.Trails.{Traced, BestWalk, Repeats};
 ghost use Rattle.bounds.specs.Paths.{numbers};
 use crate::Path;
-use crate::relax::trace;
+use crate::relax::round;
 use model::Edge;
+
+// The marks of the first rounds.
+fn trace(edges: &[Edge], k: usize, count: usize) -> [[u16; 32]; 32]
+    requires fits { ⌜ GraphFits count (now edges) ⌝ }
+    requires interval { ⌜ k ≤ 256 ⌝ }
+    ensures { λ r. ⌜ Traced (now (edges .entry)) k count r ⌝ }
+{
+    let mut held = [0; 32];
+    let mut rows = [[0; 32]; 32];
+    for r in 0..count {
+        let row = round(edges, k, &held);
+        let marks = row.marks;
+        held = row.values;
+        rows[r] = marks;
+    }
+    rows
+}
 
 // The walk from `start` whose sum is what `count` rounds found.
 fn best_walk(edges: &[Edge], k: usize, count: usize, start: usize) -> Path

@@ -5,7 +5,7 @@ ghost use lib.ListN.{length, getD};
 ghost use Rattle.std.specs.shelf.Lists.{All};
 ghost use Rattle.model.specs.Limits.{EdgeFits, GraphFits};
 ghost use Rattle.model.specs.Relaxation.{offer};
-ghost use Rattle.graph_laws.specs.Trails.{value, Traced};
+ghost use Rattle.graph_laws.specs.Trails.{value};
 ghost use Rattle.bounds.specs.Rounds.{Low, RoundOf, Settles, Raised, FirstOf};
 use model::Edge;
 
@@ -114,21 +114,4 @@ pub(crate) fn first_settled(edges: &[Edge], count: usize) -> Option<FirstSettled
         }
     }
     None
-}
-
-// The marks of the first rounds.
-pub(crate) fn trace(edges: &[Edge], k: usize, count: usize) -> [[u16; 32]; 32]
-    requires fits { ⌜ GraphFits count (now edges) ⌝ }
-    requires interval { ⌜ k ≤ 256 ⌝ }
-    ensures { λ r. ⌜ Traced (now (edges .entry)) k count r ⌝ }
-{
-    let mut held = [0; 32];
-    let mut rows = [[0; 32]; 32];
-    for r in 0..count {
-        let row = round(edges, k, &held);
-        let marks = row.marks;
-        held = row.values;
-        rows[r] = marks;
-    }
-    rows
 }

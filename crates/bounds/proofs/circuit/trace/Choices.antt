@@ -3,7 +3,7 @@ use mathlib.Core.Path.{_≡_}
 use lib.ListN.{getD, length}
 use Rattle.model.specs.Relaxation.{rounds}
 use Rattle.graph_laws.specs.Trails.{Traced}
-use Rattle.bounds.proofs.relax.trace.Given as given
+use Rattle.bounds.proofs.circuit.trace.Given as given
 
 abbrev pub Inv-loop-r : given.InvT-loop-r
 Inv-loop-r l =

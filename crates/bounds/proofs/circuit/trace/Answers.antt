@@ -4,7 +4,7 @@ use borrow.Author.Needs.{needs}
 use Rattle.std.proofs.shelf.Lists.{length-set}
 use Rattle.model.specs.Relaxation.{rounds}
 use Rattle.graph_laws.proofs.Steps.{one-more, zeros, low, widened, row-traced}
-use Rattle.bounds.proofs.relax.trace.Needs as need
+use Rattle.bounds.proofs.circuit.trace.Needs as need
 
 pub loop-r-holds : need.loop-r-holds
 unfolding rounds
