@@ -22,8 +22,8 @@ use Rattle.bounds.specs.declared.height.NoHeights.the-variants.{Outside, Above
 use Rattle.bounds.specs.Paths.{numbers}
 
 -- The sum of BUSY over the operations of class u among the first n.
-abbrev pub busySum : List Usage → ℕ → ℕ → ℕ
-busySum us n u = total (λ j. cond (eqb (usage us j .class) u) (usage us j .busy) 0) n
+abbrev pub class-busy : List Usage → ℕ → ℕ → ℕ
+class-busy us n u = total (λ j. cond (eqb (usage us j .class) u) (usage us j .busy) 0) n
 
 abbrev pub evidence : Witness → Evidence
 evidence (Class u) = by-class u

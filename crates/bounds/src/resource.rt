@@ -6,7 +6,7 @@ ghost use Rattle.std.specs.shelf.Lists.{All};
 ghost use Rattle.model.specs.Limits.{hardware, UsageFits, MachineFits};
 ghost use Rattle.model.specs.Minimum.{own-minimum};
 ghost use Rattle.graph_laws.specs.Trails.{Leads};
-ghost use Rattle.bounds.specs.Answers.{busySum};
+ghost use Rattle.bounds.specs.Answers.{class-busy};
 use model::Usage;
 
 // The greatest quotient of a class, and the lowest class that has it.
@@ -20,7 +20,7 @@ pub struct Resource {
 fn busy_sum(usages: &[Usage], class: usize) -> usize
     requires few { ⌜ length (now usages) ≤ 32 ⌝ }
     requires short { ⌜ All (λ u. u .busy ≤ 8) (now usages) ⌝ }
-    ensures exact { λ r. ⌜ r ≡ busySum (now (usages .entry)) (length (now (usages .entry))) class ⌝ }
+    ensures exact { λ r. ⌜ r ≡ class-busy (now (usages .entry)) (length (now (usages .entry))) class ⌝ }
     ensures limit { λ r. ⌜ r ≤ 256 ⌝ }
 {
     let mut sum = 0;

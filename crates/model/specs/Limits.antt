@@ -5,7 +5,7 @@ use lib.ListN.{length, getD}
 use Rattle.std.specs.shelf.Lists.{All}
 use Rattle.model.specs.Loop.{Hardware}
 use Rattle.model.specs.declared.Edge.{Edge}
-pub use Rattle.model.specs.declared.Usage.{Usage}
+use Rattle.model.specs.declared.Usage.{Usage}
 
 abbrev pub usage : List Usage → ℕ → Usage
 usage us j = getD us j (record { class = 0; latency = 0; busy = 0 })
