@@ -8,3 +8,9 @@ pub mod MachineText
 pub mod LoopText
 pub mod TextLaws
 pub mod Soundness
+pub mod MemoryOrder
+pub mod Walks
+pub mod Minimum
+pub mod Relaxation
+pub mod Limits
+pub mod GraphLaws

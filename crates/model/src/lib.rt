@@ -35,7 +35,7 @@ pub enum MachineForm {
     Op,
 }
 
-// What a machine makes of a code: the number of its unit class, when its result lands, and how long it keeps a unit busy.
+// What a code or an operation takes of the machine: a unit of its class for `busy` cycles, and `latency` cycles until its result lands.
 #[derive(Clone, Copy, PartialEq, Eq, Debug)]
 pub struct Timing {
     pub class: usize,

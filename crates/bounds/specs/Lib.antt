@@ -1,0 +1,3 @@
+pub mod Rounds
+pub mod Paths
+pub mod Answers
