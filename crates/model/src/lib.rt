@@ -27,3 +27,21 @@ pub struct Edge {
     pub delay: usize,
     pub distance: usize,
 }
+
+// Of a register of the driving machine: no write has landed, a write is awaited, a write has landed and none is awaited.
+#[derive(Clone, Copy, PartialEq, Eq, Debug)]
+pub enum Status {
+    Never,
+    Waits,
+    Landed,
+}
+
+// What the driving machine asks about each slot, in this order.
+#[derive(Clone, Copy, PartialEq, Eq, Debug)]
+pub enum Question {
+    UnitFree,
+    OperandsLanded,
+    IterationRuns,
+    CellInMemory,
+    ResultFree,
+}
