@@ -1,7 +1,13 @@
 pub mod Loop
 pub mod Edges
 pub mod Schedule
+pub mod Walks
+pub mod Relaxation
+pub mod Minimum
 pub mod MemoryOrder
+pub mod GraphLaws
+pub mod Lives
+pub mod Schemes
 pub mod Domains
 pub mod Plain
 pub mod Issues

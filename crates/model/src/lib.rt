@@ -28,6 +28,13 @@ pub struct Edge {
     pub distance: usize,
 }
 
+// The life of a variable: its first and its last cycle.
+#[derive(Clone, Copy, PartialEq, Eq, Debug)]
+pub struct Life {
+    pub start: usize,
+    pub end: usize,
+}
+
 // Of a register of the driving machine: no write has landed, a write is awaited, a write has landed and none is awaited.
 #[derive(Clone, Copy, PartialEq, Eq, Debug)]
 pub enum Status {

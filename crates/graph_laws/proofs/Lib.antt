@@ -1,0 +1,11 @@
+pub mod Total
+pub mod Listed
+pub mod Memory
+pub mod Around
+pub mod Relaxed
+pub mod Pigeons
+pub mod Cut
+pub mod Lower
+pub mod Upper
+pub mod Turn
+pub mod Sequence
