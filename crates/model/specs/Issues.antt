@@ -61,7 +61,7 @@ variable-number ops j = total (λ q. cond (makes (op ops q)) 1 0) j
 abbrev pub home-of : Loop → (ℕ → ℕ → ℕ) → ℕ → ℕ → ℕ
 home-of ops place j i = place (variable-number ops j) i
 
-module _ (ops : Loop) (hw : Hardware) (w : Schedule) (trips : ℕ) (home : ℕ → ℕ → ℕ) where
+module _ (ops : Loop) (hw : Hardware) (w : Schedule) (home : ℕ → ℕ → ℕ) where
   -- operation j as it issues in cycle c
   abbrev pub slot-of : ℕ → ℕ → Slot
   slot-of c j = record {
@@ -73,10 +73,11 @@ module _ (ops : Loop) (hw : Hardware) (w : Schedule) (trips : ℕ) (home : ℕ �
     busy = hw .busy j;
   }
 
+module _ (ops : Loop) (hw : Hardware) (w : Schedule) (trips : ℕ) (home : ℕ → ℕ → ℕ) where
   -- the slots of cycle c, of the first j operations
   unfoldable pub slots : ℕ → ℕ → List Slot
   slots c zero = []
-  slots c (suc j) = slots c j ++ cond (issues w trips j c) (slot-of c j ∷ []) []
+  slots c (suc j) = slots c j ++ cond (issues w trips j c) (slot-of ops hw w home c j ∷ []) []
 
   -- THE ISSUES OF A CYCLE, in the order of the operations: what a code form has to mean.
   abbrev pub issues-at : Form

@@ -12,3 +12,6 @@ pub mod Domains
 pub mod Plain
 pub mod Issues
 pub mod Driving
+pub mod ScheduleLives
+pub mod Files
+pub mod Pipelining

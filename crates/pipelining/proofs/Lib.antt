@@ -1,0 +1,11 @@
+pub mod Effects
+pub mod Order
+pub mod Timed
+pub mod Sound
+pub mod Flat
+pub mod Issue
+pub mod Cycle
+pub mod Run
+pub mod Landing
+pub mod Driven
+pub mod Row
