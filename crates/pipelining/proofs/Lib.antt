@@ -9,3 +9,5 @@ pub mod Run
 pub mod Landing
 pub mod Driven
 pub mod Row
+pub mod Placed
+pub mod Drive
