@@ -11,3 +11,4 @@ pub mod Driven
 pub mod Row
 pub mod Placed
 pub mod Drive
+pub mod Units
