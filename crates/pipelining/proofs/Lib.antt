@@ -12,3 +12,4 @@ pub mod Row
 pub mod Placed
 pub mod Drive
 pub mod Units
+pub mod Examine
