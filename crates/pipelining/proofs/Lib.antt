@@ -13,3 +13,4 @@ pub mod Placed
 pub mod Drive
 pub mod Units
 pub mod Examine
+pub mod Questions
