@@ -14,3 +14,4 @@ pub mod Drive
 pub mod Units
 pub mod Examine
 pub mod Questions
+pub mod Lasting
