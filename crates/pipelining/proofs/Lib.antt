@@ -15,3 +15,4 @@ pub mod Units
 pub mod Examine
 pub mod Questions
 pub mod Lasting
+pub mod FilesHold
