@@ -16,3 +16,5 @@ pub mod Examine
 pub mod Questions
 pub mod Lasting
 pub mod FilesHold
+pub mod Length
+pub mod Theorem
