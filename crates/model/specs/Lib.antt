@@ -1,3 +1,7 @@
 pub mod Loop
 pub mod Edges
 pub mod Schedule
+pub mod Lives
+pub mod Schemes
+pub mod Domains
+pub mod SchemeLaws

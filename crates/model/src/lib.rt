@@ -27,3 +27,10 @@ pub struct Edge {
     pub delay: usize,
     pub distance: usize,
 }
+
+// The life of a variable: its first and its last cycle.
+#[derive(Clone, Copy, PartialEq, Eq, Debug)]
+pub struct Life {
+    pub start: usize,
+    pub end: usize,
+}
