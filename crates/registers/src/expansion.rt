@@ -1,0 +1,1 @@
+// How the expanded scheme gives registers.
