@@ -7,7 +7,7 @@ use mathlib.Core.Logic.{_⊎_, inl, inr}
 use native.Mathlib.Nat.{mod-lt, mul-add, add-mul, mul-le-mul-left, mul-le-mul-right, le-div-iff-mul-le, div-add-mod, mul-one}
 use native.Mathlib.Omega.{arith}
 use lib.Dec.{ltb, leb}
-use lib.ListN.{length, getD}
+use lib.ListN.{length, take, getD}
 use Rattle.std.proofs.shelf.Tests.{cases-bool, cases-lt, cases-order, and-parts, and-from, ltb-true, ltb-false, leb-true, lt-ltb, le-ltb, le-leb, cond-true, cond-false, cond-both}
 use Rattle.model.specs.declared.Life.{Life}
 use Rattle.model.specs.Lives.{Table, no-life, life, Limits, Alive}
@@ -16,7 +16,7 @@ use Rattle.model.specs.SchemeLaws.{Keeps, KeepsLaw}
 use Rattle.register_laws.proofs.Modulo.{back-of-mod}
 
 -- U v + x < U (v + 1) for x < U
-within : (U v n x : ℕ) → v < n → x < U → U * v + x < U * n
+pub within : (U v n x : ℕ) → v < n → x < U → U * v + x < U * n
 within U v n x h lt =
     let e : U * (v + 1) ≡ U * v + U * 1 = mul-add U v 1 in
     let o : U * 1 ≡ U = mul-one U in
@@ -60,6 +60,14 @@ want-at-most k (l ∷ ls) (suc v) h = let r = want-at-most k ls v (omega arith) 
 pub some-want : (k : ℕ) (ls : List Life) → 1 ≤ greatest-want k ls
 some-want k [] = omega arith
 some-want k (l ∷ ls) = let r = some-want k ls in omega arith
+
+pub greatest-more : (k : ℕ) (ls : List Life) (v : ℕ) → v < length ls → greatest-want k (take (v + 1) ls) ≡ max (greatest-want k (take v ls)) (want k (getD ls v no-life))
+greatest-more k [] v h = let f : ⊥ = omega arith in absurd f
+greatest-more k (l ∷ ls) zero h = omega arith
+greatest-more k (l ∷ ls) (suc v) h =
+    let r = greatest-more k ls v (omega arith) in
+    let e : suc v + 1 ≡ suc (v + 1) = omega arith in
+    ap (λ n. greatest-want k (take n (l ∷ ls))) e ∙ omega arith
 
 -- U registers for each variable keep instances apart if no life wants more
 module _ (t : Table) (U : ℕ) (some : 0 < t .interval) (turns : 1 ≤ U)

@@ -4,8 +4,7 @@ ghost use mathlib.Core.Bool.{true};
 ghost use Prim.Native.Nat.{ℕ, _≤_, _<_};
 ghost use lib.ListN.{length, getD};
 ghost use Rattle.std.specs.Options.{isSome};
-ghost use Rattle.model.specs.Schemes.{rotating-need, rotating-base, rotating};
-ghost use Rattle.model.specs.Schemes.{no-lives};
+ghost use Rattle.model.specs.Schemes.{rotating-need, rotating-base, rotating, no-lives};
 ghost use Rattle.registers.specs.Views.{table};
 ghost use Rattle.registers.specs.Fits.{Fitted};
 ghost use Rattle.registers.specs.Meanings.{rotating-meaning};
@@ -44,6 +43,14 @@ impl Rotating {
             count: 0,
             bases: [0; 32],
         }
+    }
+
+    // The registers that a table needs.
+    pub fn need(lives: &Lives) -> usize
+        ensures { λ r. ⌜ r ≡ rotating-need (table (now (lives .entry))) ⌝ }
+    {
+        let (_, need) = lay_out(lives);
+        need
     }
 }
 

@@ -5,7 +5,7 @@ ghost use mathlib.Core.List.{[], _∷_, _++_};
 ghost use Prim.Native.Nat.{ℕ, _*_, _≤_, _<_};
 ghost use lib.ListN.{length};
 ghost use Rattle.std.specs.Options.{Cases as BySome};
-ghost use Rattle.model.specs.Lives.{LifeWithin};
+ghost use Rattle.model.specs.Lives.{LifeWithin, Limits};
 ghost use Rattle.registers.specs.Views.{table, Filled};
 use crate::lives::Lives;
 use model::Life;
@@ -54,7 +54,8 @@ impl Lives {
 
     // The lives, variable by variable.
     pub fn as_slice(&self) -> &[Life]
-        ensures { λ r. ⌜ now r ≡ table (now (self .entry)) .lives ⌝ }
+        ensures lives { λ r. ⌜ now r ≡ table (now (self .entry)) .lives ⌝ }
+        ensures limits { λ _. ⌜ Limits (table (now (self .entry))) ⌝ }
     {
         &self.lives[0..self.count]
     }

@@ -7,7 +7,7 @@ add-bases c =
     let k = c .interval-interval .result in
     let ls = c .as-slice-life-items .result .now in
     let t = seen k ls in
-    let lim = asked-limits (c .args .lives .now) k ls (c .interval-interval .ensures) (c .as-slice-life-items .ensures) in
+    let lim = asked-limits (c .args .lives .now) k ls (c .interval-interval .ensures) (c .as-slice-life-items .ensures .lives) in
     let st = stages t lim (c .loop-v .v) (c .loop-v-test .taken) in
     omega (arith, c .loop-v .inv .1)
 
@@ -16,7 +16,7 @@ sub-bases c =
     let k = c .interval-interval .result in
     let ls = c .as-slice-life-items .result .now in
     let t = seen k ls in
-    let lim = asked-limits (c .args .lives .now) k ls (c .interval-interval .ensures) (c .as-slice-life-items .ensures) in
+    let lim = asked-limits (c .args .lives .now) k ls (c .interval-interval .ensures) (c .as-slice-life-items .ensures .lives) in
     let st = stages t lim (c .loop-v .v) (c .loop-v-test .taken) in
     omega arith
 
@@ -25,7 +25,7 @@ index-bases-v c =
     let k = c .interval-interval .result in
     let ls = c .as-slice-life-items .result .now in
     let t = seen k ls in
-    let lim = asked-limits (c .args .lives .now) k ls (c .interval-interval .ensures) (c .as-slice-life-items .ensures) in
+    let lim = asked-limits (c .args .lives .now) k ls (c .interval-interval .ensures) (c .as-slice-life-items .ensures .lives) in
     let st = stages t lim (c .loop-v .v) (c .loop-v-test .taken) in
     omega arith
 
@@ -34,7 +34,7 @@ sub-need c =
     let k = c .interval-interval .result in
     let ls = c .as-slice-life-items .result .now in
     let t = seen k ls in
-    let lim = asked-limits (c .args .lives .now) k ls (c .interval-interval .ensures) (c .as-slice-life-items .ensures) in
+    let lim = asked-limits (c .args .lives .now) k ls (c .interval-interval .ensures) (c .as-slice-life-items .ensures .lives) in
     let st = stages t lim (c .loop-v .v) (c .loop-v-test .taken) in
     st .0
 
@@ -43,7 +43,7 @@ add-need c =
     let k = c .interval-interval .result in
     let ls = c .as-slice-life-items .result .now in
     let t = seen k ls in
-    let lim = asked-limits (c .args .lives .now) k ls (c .interval-interval .ensures) (c .as-slice-life-items .ensures) in
+    let lim = asked-limits (c .args .lives .now) k ls (c .interval-interval .ensures) (c .as-slice-life-items .ensures .lives) in
     let st = stages t lim (c .loop-v .v) (c .loop-v-test .taken) in
     omega arith
 
@@ -52,7 +52,7 @@ add-need-in-loop-v c =
     let k = c .interval-interval .result in
     let ls = c .as-slice-life-items .result .now in
     let t = seen k ls in
-    let lim = asked-limits (c .args .lives .now) k ls (c .interval-interval .ensures) (c .as-slice-life-items .ensures) in
+    let lim = asked-limits (c .args .lives .now) k ls (c .interval-interval .ensures) (c .as-slice-life-items .ensures .lives) in
     let st = stages t lim (c .loop-v .v) (c .loop-v-test .taken) in
     omega (arith, c .loop-v .inv .1)
 
@@ -61,7 +61,7 @@ loop-v-again c =
     let k = c .interval-interval .result in
     let ls = c .as-slice-life-items .result .now in
     let t = seen k ls in
-    let lim = asked-limits (c .args .lives .now) k ls (c .interval-interval .ensures) (c .as-slice-life-items .ensures) in
+    let lim = asked-limits (c .args .lives .now) k ls (c .interval-interval .ensures) (c .as-slice-life-items .ensures .lives) in
     laid-more t lim (c .loop-v .v) (c .loop-v-test .taken) (c .loop-v .need) (c .loop-v .bases) (c .loop-v .inv)
 
 pub returns : need.returns
@@ -70,7 +70,7 @@ returns c =
     let k = c .interval-interval .result in
     let ls = c .as-slice-life-items .result .now in
     let e = c .interval-interval .ensures in
-    let f = c .as-slice-life-items .ensures in
+    let f = c .as-slice-life-items .ensures .lives in
     record {
       need = need-is l k ls e f (c .loop-v .v) (c .loop-v .need) (c .loop-v .bases) (c .loop-v .inv) (c .loop-v-test .left);
       bases = bases-are l k ls e f (c .loop-v .v) (c .loop-v .need) (c .loop-v .bases) (c .loop-v .inv) (c .loop-v-test .left);
