@@ -1,8 +1,10 @@
 -- Value domains: the operations on values of a type V, and the two domains.
-use Prim.Native.Nat.{ℕ, _+_, _-_, _*_, _%_, _^_}
+use Prim.Native.Nat.{ℕ, suc, _+_, _-_, _*_, _%_, _^_, _<_}
+use mathlib.Core.Bool.{true, false}
 use lib.IntN.{ℤ, pos, negsuc}
 use lib.Ieee as ieee
 use lib.Ieee.{Float, binary64}
+use lib.Ieee.Exact.{HasValue}
 pub use Rattle.model.specs.declared.Operator.{Operator}
 use Rattle.model.specs.declared.Operator.the-variants.{Plus, Minus, Times}
 
@@ -32,3 +34,12 @@ float-apply Times a b = ieee.mul binary64 a b
 
 abbrev pub floats : Domain Float
 floats = record { of-literal = ieee.ofInt binary64; apply = float-apply }
+
+-- The float of an integer of 32 bits is finite, with its sign and its size: nothing is rounded. (HasValue x sign a b: x is a / b with that sign.)
+abbrev pub Exact : ℤ → Float → Type 0
+Exact (pos n) x = HasValue x false n 1
+Exact (negsuc n) x = HasValue x true (suc n) 1
+
+pub record LiteralsExact : Type 0 where
+  pub from-zero : (n : ℕ) → n < 2 ^ 31 → Exact (pos n) (floats .of-literal (pos n))
+  pub below-zero : (n : ℕ) → n < 2 ^ 31 → Exact (negsuc n) (floats .of-literal (negsuc n))

@@ -9,6 +9,7 @@ pub mod GraphLaws
 pub mod Lives
 pub mod Schemes
 pub mod Domains
+pub mod SchemeLaws
 pub mod Plain
 pub mod Issues
 pub mod Driving

@@ -40,13 +40,19 @@ pub record Lawful (m : Meaning) : Type 0 where
   -- in pass p the name for copy p mod turns and r passes back leads to the place of iteration p - r
   pub resolves : (v p r : ℕ) → v < m .variables → r ≤ 14 → r ≤ p → m .resolve (m .name v (p % m .turns) r) p ≡ m .place v (p - r)
 
--- A table was accepted with the answer u: what the scheme meant before, what it means after.
-pub record Accepted (before after : Meaning) (t : Table) (u : ℕ) : Type 0 where
+-- A table was accepted with the answer u: what the scheme meant before, what it means after and the places it gives then.
+pub record Accepted (before after : Meaning) (place : ℕ → ℕ → ℕ) (t : Table) (u : ℕ) : Type 0 where
   pub within : before .need t ≤ before .file
   pub turns : u ≡ after .turns
   pub variables : after .variables ≡ length (t .lives)
   pub file : after .file ≡ before .file
   pub need : after .need ≡ before .need
+  pub apart : Apart t place
+
+-- A table was refused: it needs too much, and the scheme is as it was.
+pub record Refused {S : Type 0} (meaning : Meaning) (before after : S) (t : Table) : Type 0 where
+  pub beyond : meaning .file < meaning .need t
+  pub same : after ≡ before
 
 -- a - b modulo m, from 0 to m - 1: modulo m, subtracting 1 is adding m - 1
 abbrev pub less : ℕ → ℕ → ℕ → ℕ
