@@ -1,10 +1,11 @@
 -- What the value entries and the waiting entries hold.
 use Prim.Native.Nat.{ℕ, zero, suc, _+_, _-_, _*_, _<_, _≤_}
 use mathlib.Core.Path.{_≡_, refl, sym, ap, ap₂, _∙_}
-use mathlib.Core.Bool.{true, false}
+use mathlib.Core.Bool.{true, false, _&&_}
 use mathlib.Core.List.{List, [], _∷_}
 use mathlib.Core.Logic.{_⊎_, inl, inr}
 use native.Mathlib.Omega.{arith}
+use lib.Dec.{eqb, leb}
 use lib.ListN.{length}
 use Rattle.std.specs.shelf.Lists.{All}
 use Rattle.std.proofs.shelf.Tests.{cases-eq, cases-bool, both-ways, eqb-true, leb-true, eq-eqb, ne-eqb, le-leb, and-parts, and-from}
@@ -33,11 +34,12 @@ module _ (ops : Loop) (w : Schedule) (trips : ℕ) (home : ℕ → ℕ → ℕ) 
 
   reached : (r c j : ℕ) → reaches ops w trips home delay r c j ≡ true → Reaches r c j (iteration-of w j (c - delay j))
   reached r c j h =
-      let a = and-parts _ _ h in
-      let b = and-parts _ _ (a .1) in
-      let d = and-parts _ _ (b .1) in
-      let it = issued w trips j (c - delay j) (b .0) in
-      (d .0, it .0, eqb-true _ _ (d .1), omega (arith, it .1, leb-true _ _ (a .0)))
+      let late : (leb (delay j) c ≡ true) × (issues w trips j (c - delay j) && (makes (op ops j) && eqb (home j (iteration-of w j (c - delay j))) r) ≡ true) = and-parts _ _ h in
+      let is : (issues w trips j (c - delay j) ≡ true) × (makes (op ops j) && eqb (home j (iteration-of w j (c - delay j))) r ≡ true) = and-parts _ _ (late .1) in
+      let goes : (makes (op ops j) ≡ true) × (eqb (home j (iteration-of w j (c - delay j))) r ≡ true) = and-parts _ _ (is .1) in
+      let it = issued w trips j (c - delay j) (is .0) in
+      let then : issue-cycle w j (iteration-of w j (c - delay j)) + delay j ≡ c = omega (arith, it .1, leb-true (delay j) c (late .0)) in
+      (goes .0, it .0, eqb-true _ _ (goes .1), then)
 
   will-reach : (r c j i : ℕ) → Reaches r c j i → reaches ops w trips home delay r c j ≡ true
   will-reach r c j i h =
