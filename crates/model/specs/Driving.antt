@@ -128,8 +128,8 @@ module _ {V : Type 0} where
   result-free slot m = not (makes (slot .operation)) || not (awaits (m .status (slot .target)))
 
 -- The iteration of a slot in cycle c at interval k.
-abbrev pub iteration : ℕ → ℕ → Slot → ℕ
-iteration k c slot = iteration-in k (slot .stage) c
+abbrev pub slot-iteration : ℕ → ℕ → Slot → ℕ
+slot-iteration k c slot = iteration-in k (slot .stage) c
 
 -- The third question: its iteration, in pass p, is 0 to trips - 1.
 abbrev pub iteration-runs : ℕ → ℕ → Slot → Bool
@@ -143,19 +143,19 @@ module _ {V : Type 0} (units : ℕ → ℕ) (k trips : ℕ) where
       ask UnitFree n (unit-free units c slot m)
       (ask OperandsLanded n (operands-landed slot m)
       (ask IterationRuns n (iteration-runs (c / k) trips slot)
-      (ask CellInMemory n (cell-in-memory (iteration k c slot) slot m)
+      (ask CellInMemory n (cell-in-memory (slot-iteration k c slot) slot m)
       (ask ResultFree n (result-free slot m)
       (examine c (suc n) slots (reserved c slot m))))))
 
 module _ {V : Type 0} (dom : Domain V) (k : ℕ) where
   -- What a slot loads, computes or stores, by the machine that it sees.
   abbrev pub slot-result : ℕ → Slot → Machine V → V
-  slot-result c slot seen = evaluate dom (source-value dom (seen .values)) (slot .operation) (iteration k c slot) (seen .memory)
+  slot-result c slot seen = evaluate dom (source-value dom (seen .values)) (slot .operation) (slot-iteration k c slot) (seen .memory)
 
   -- 3 AND 4. A slot sees the machine before the row and changes another: its result begins to wait, or its store writes.
   unfoldable pub issue : ℕ → Slot → Machine V → Machine V → Machine V
   issue c slot seen m = record {
-    memory = written (slot .operation) (iteration k c slot) (slot-result c slot seen) (m .memory);
+    memory = written (slot .operation) (slot-iteration k c slot) (slot-result c slot seen) (m .memory);
     values = m .values;
     waiting = cond (makes (slot .operation)) (put (slot .target) (record { due = c + slot .latency; value = slot-result c slot seen }) (m .waiting)) (m .waiting);
     status = reserved c slot m .status;

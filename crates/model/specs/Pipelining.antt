@@ -13,7 +13,7 @@ use Rattle.model.specs.ScheduleLives.{lives-table}
 use Rattle.model.specs.Domains.{Domain}
 use Rattle.model.specs.Plain.{State, plain}
 use Rattle.model.specs.Issues.{Slot, Form, passes, cycles, issues, iteration-of, home-of, slot-of, issues-at}
-use Rattle.model.specs.Driving.{Waiting, Machine, fresh, Outcome, finished, standing, passed, lands, land, examine, iteration, slot-result, run, drive}
+use Rattle.model.specs.Driving.{Waiting, Machine, fresh, Outcome, finished, standing, passed, lands, land, examine, slot-iteration, slot-result, run, drive}
 use Rattle.model.specs.Files.{made, last-issued, last-landed, value-entry, waiting-entry}
 
 -- Every cell that iterations 0 to trips - 1 touch is one of the first `cells`.
@@ -26,7 +26,7 @@ Means form ops hw w trips place = (c : ℕ) → c < cycles w (length ops) trips 
 
 -- A slot works in cycle c for an iteration of the loop.
 abbrev pub InRange : ℕ → ℕ → ℕ → Slot → Type 0
-InRange k trips c slot = (slot .stage ≤ c / k) × (iteration k c slot < trips)
+InRange k trips c slot = (slot .stage ≤ c / k) × (slot-iteration k c slot < trips)
 
 module _ {V : Type 0} (dom : Domain V) (ops : Loop) (hw : Hardware) (w : Schedule) (trips : ℕ) (place : ℕ → ℕ → ℕ)
     (memory : List V) (values : ℕ → V) (waiting : ℕ → Waiting V) (form : Form) where

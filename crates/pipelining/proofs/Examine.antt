@@ -12,7 +12,7 @@ use Rattle.std.proofs.shelf.Tests.{cases-eq, cases-bool, eq-eqb, ne-eqb, lt-ltb
 use Rattle.model.specs.Loop.{Loop, Operation, load, store, binary, move, op, cell, Loads, Stores, EachOperand, operands, makes, in-memory, stride-of, offset-of, on-operands, Hardware}
 use Rattle.model.specs.Schedule.{Schedule}
 use Rattle.model.specs.Issues.{Slot, issues, iteration-of, slot-of, slots}
-use Rattle.model.specs.Driving.{Machine, passed, all-below, all-of, use-of, reserved, unit-free, operands-landed, iteration-runs, cell-in-memory, result-free, iteration, examine}
+use Rattle.model.specs.Driving.{Machine, passed, all-below, all-of, use-of, reserved, unit-free, operands-landed, iteration-runs, cell-in-memory, result-free, slot-iteration, examine}
 use Rattle.model.specs.declared.Status.the-variants.{Waits}
 use Rattle.pipelining.proofs.Row.{makes-on}
 use Rattle.pipelining.proofs.Units.{uses-of}
@@ -40,7 +40,7 @@ pub record Yes {V : Type 0} (units : ℕ → ℕ) (k trips c : ℕ) (slot : Slot
   pub unit : unit-free units c slot m ≡ true
   pub landed : operands-landed slot m ≡ true
   pub runs : iteration-runs (c / k) trips slot ≡ true
-  pub there : cell-in-memory (iteration k c slot) slot m ≡ true
+  pub there : cell-in-memory (slot-iteration k c slot) slot m ≡ true
   pub free : result-free slot m ≡ true
 
 module _ {V : Type 0} (units : ℕ → ℕ) (k trips c : ℕ) where
