@@ -16,3 +16,5 @@ pub mod Driving
 pub mod ScheduleLives
 pub mod Files
 pub mod Pipelining
+pub mod WorkedRun
+pub mod WorkedFaults
