@@ -1,8 +1,8 @@
 -- THE PIPELINING THEOREM: what the driving machine does on a schedule, beside the plain loop.
-use Prim.Native.Nat.{ℕ, suc, _+_, _-_, _*_, _/_, _≤_, _<_}
+use Prim.Native.Nat.{ℕ, zero, suc, _+_, _-_, _*_, _/_, _≤_, _<_}
 use mathlib.Core.Path.{_≡_}
 use mathlib.Core.Bool.{true, false}
-use mathlib.Core.List.{List}
+use mathlib.Core.List.{List, [], _∷_}
 use lib.ListN.{length}
 use Rattle.std.specs.shelf.Lists.{All}
 use Rattle.model.specs.Loop.{Loop, Operand, literal, variable, op, EachOperand, makes, Hardware, WellFormed}
@@ -13,7 +13,7 @@ use Rattle.model.specs.ScheduleLives.{lives-table}
 use Rattle.model.specs.Domains.{Domain}
 use Rattle.model.specs.Plain.{State, plain}
 use Rattle.model.specs.Issues.{Slot, Form, passes, cycles, issues, iteration-of, home-of, slot-of, issues-at}
-use Rattle.model.specs.Driving.{Waiting, Machine, fresh, Outcome, finished, standing, passed, lands, land, examine, slot-iteration, slot-result, run, drive}
+use Rattle.model.specs.Driving.{Waiting, Machine, fresh, Outcome, finished, standing, passed, use-of, lands, land, examine, slot-iteration, slot-result, run, drive}
 use Rattle.model.specs.Files.{made, last-issued, last-landed, value-entry, waiting-entry}
 
 -- Every cell that iterations 0 to trips - 1 touch is one of the first `cells`.
@@ -27,6 +27,15 @@ Means form ops hw w trips place = (c : ℕ) → c < cycles w (length ops) trips 
 -- A slot works in cycle c for an iteration of the loop.
 abbrev pub InRange : ℕ → ℕ → ℕ → Slot → Type 0
 InRange k trips c slot = (slot .stage ≤ c / k) × (slot-iteration k c slot < trips)
+
+-- The units of class u that slots which issue in cycle c use in cycle y; and that all slots of the first c cycles use in it.
+abbrev pub uses-of : ℕ → ℕ → ℕ → List Slot → ℕ
+uses-of u y c [] = 0
+uses-of u y c (slot ∷ slots) = use-of u y c slot + uses-of u y c slots
+
+unfoldable pub in-use : Form → ℕ → ℕ → ℕ → ℕ
+in-use form u y zero = 0
+in-use form u y (suc c) = in-use form u y c + uses-of u y c (form c)
 
 module _ {V : Type 0} (dom : Domain V) (ops : Loop) (hw : Hardware) (w : Schedule) (trips : ℕ) (place : ℕ → ℕ → ℕ)
     (memory : List V) (values : ℕ → V) (waiting : ℕ → Waiting V) (form : Form) where
@@ -58,8 +67,9 @@ module _ {V : Type 0} (dom : Domain V) (ops : Loop) (hw : Hardware) (w : Schedul
     pub right-results : (c j : ℕ) → c < cycles w (length ops) trips → j < length ops → issues w trips j c ≡ true →
         slot-result dom (w .interval) c (slot-of ops hw w (home-of ops place) c j) (land c (before c)) ≡
         plain dom ops trips memory .value j (iteration-of w j c)
-    -- In no cycle are more units of a class taken than it has, and every slot works for an iteration of the loop.
-    pub units-suffice : (c u y : ℕ) → c ≤ cycles w (length ops) trips → before c .taken u y ≤ hw .units u
+    -- In no cycle y are more units of a class in use than it has, which is also what the machine counts; and every slot works for an iteration of the loop.
+    pub units-suffice : (c u y : ℕ) → c ≤ cycles w (length ops) trips → in-use form u y c ≤ hw .units u
+    pub units-counted : (c u y : ℕ) → c ≤ cycles w (length ops) trips → before c .taken u y ≡ in-use form u y c
     pub in-range : (c : ℕ) → c < cycles w (length ops) trips → All (InRange (w .interval) trips c) (form c)
     -- How long it takes.
     pub no-cycles : trips ≡ 0 → cycles w (length ops) trips ≡ 0

@@ -15,7 +15,7 @@ use Rattle.model.specs.Issues.{Slot, issues, iteration-of, slot-of, slots}
 use Rattle.model.specs.Driving.{Machine, passed, all-below, all-of, use-of, reserved, unit-free, operands-landed, iteration-runs, cell-in-memory, result-free, slot-iteration, examine}
 use Rattle.model.specs.declared.Status.the-variants.{Waits}
 use Rattle.pipelining.proofs.Row.{makes-on}
-use Rattle.pipelining.proofs.Units.{uses-of}
+use Rattle.model.specs.Pipelining.{uses-of}
 
 pub all-below-true : (p : ℕ → Bool) (n : ℕ) → ((b : ℕ) → b < n → p b ≡ true) → all-below p n ≡ true
 all-below-true p zero h = refl

@@ -22,7 +22,7 @@ use Rattle.pipelining.proofs.Issue.{issued, minus-times}
 use Rattle.pipelining.proofs.Landing.{not-waiting}
 use Rattle.pipelining.proofs.Driven.{driven}
 use Rattle.pipelining.proofs.Row.{makes-on}
-use Rattle.pipelining.proofs.Units.{in-use, taken-is, unit-left, uses-of}
+use Rattle.pipelining.proofs.Units.{taken-is, unit-left}
 use Rattle.pipelining.proofs.Examine.{all-below-true, all-of-on, cell-fine, Yes, examined, reserve-all, memory-reserved, taken-reserved, found, found-then, row-yes}
 use Rattle.pipelining.proofs.Drive.{now, Made, landing, Kept, kept-at, read-right, alive-at, no-clash, Known, operands-known, target-free, memory-length}
 

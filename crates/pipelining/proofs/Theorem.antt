@@ -26,7 +26,7 @@ use Rattle.pipelining.proofs.Driven.{driven}
 use Rattle.pipelining.proofs.Row.{values-stay, each-slot}
 use Rattle.pipelining.proofs.Run.{timed-value}
 use Rattle.pipelining.proofs.Drive.{Made, kept-at, read-right, Known, operands-known, machine-right, machine-is-plain}
-use Rattle.pipelining.proofs.Units.{taken-is, units-suffice}
+use Rattle.pipelining.proofs.Units.{taken-is, units-suffice, in-use-same}
 use Rattle.pipelining.proofs.Questions.{all-passed, goes-on}
 use Rattle.pipelining.proofs.FilesHold.{waiting-untouched, waiting-holds, values-hold, landed-stays}
 use Rattle.pipelining.proofs.Lasting.{lasting, limits, placed-by}
@@ -103,8 +103,10 @@ module _ {V : Type 0} (dom : Domain V) (ops : Loop) (hw : Hardware) (w : Schedul
     right-reads = λ c j h hj iss. each-operand _ _ (operand-right c j h hj iss) (op ops j)
         (operands-known dom ops hw w trips home ends start m sound placed refl (λ r. refl) j hj);
     right-results = λ c j h hj iss. rw (same c (omega arith)) (machine-right dom ops hw w trips home ends start m sound placed refl (λ r. refl) c j hj iss);
-    units-suffice = λ c u y h. rw (same c h, taken-is dom (w .interval) (issues-at ops hw w trips home) u y c m refl)
+    units-suffice = λ c u y h. rw (in-use-same form (issues-at ops hw w trips home) u y c (λ e l. means e (omega arith)))
         (units-suffice ops hw w trips home (schedule .positive) (schedule .rows-fit) u y c);
+    units-counted = λ c u y h. rw (same c h)
+        (taken-is dom (w .interval) (issues-at ops hw w trips home) u y c m refl ∙ sym (in-use-same form (issues-at ops hw w trips home) u y c (λ e l. means e (omega arith))));
     in-range = λ c h. rw (means c h) (each-slot ops hw w trips home c (InRange (w .interval) trips c) (length ops)
         (λ q hq iss. (issued w trips q c iss .2, issued w trips q c iss .0)) (length ops) (omega arith));
     no-cycles = no-cycles w (length ops) trips;

@@ -14,18 +14,10 @@ use Rattle.model.specs.Schedule.{Schedule, RowsFit}
 use Rattle.model.specs.Domains.{Domain}
 use Rattle.model.specs.Issues.{Form, issues, iteration-of, Slot, slot-of, slots, issues-at}
 use Rattle.model.specs.Driving.{Machine, use-of, land, reserved, issue, issue-all}
+use Rattle.model.specs.Pipelining.{uses-of, in-use}
 use Rattle.pipelining.proofs.Driven.{driven}
 use Rattle.pipelining.proofs.Issue.{issued}
 use Rattle.graph_laws.proofs.Total.{total-le, total-same, total-zero, total-swap, total-back, total-cut, total-longer}
-
--- The uses of class u in cycle y by slots that issue in cycle c; and by all that issue in the first c cycles.
-abbrev pub uses-of : ℕ → ℕ → ℕ → List Slot → ℕ
-uses-of u y c [] = 0
-uses-of u y c (slot ∷ slots) = use-of u y c slot + uses-of u y c slots
-
-unfoldable pub in-use : Form → ℕ → ℕ → ℕ → ℕ
-in-use code u y zero = 0
-in-use code u y (suc c) = in-use code u y c + uses-of u y c (code c)
 
 pub one-use-of : (y c : ℕ) (x : Slot) → c ≤ y → y < c + x .busy → use-of (x .class) y c x ≡ 1
 one-use-of y c x g l = rw (eq-eqb (x .class) (x .class) refl, le-leb c y g, lt-ltb y (c + x .busy) l)
@@ -50,6 +42,12 @@ in-use-then code u y (suc c) = elim (cases-lt y c) [
   | inl h ↦ omega (arith, late-uses u y c (code c) h, in-use-then code u y c)
   | inr g ↦ in-use-longer code u y (suc c) (suc y) (omega arith)
 ]
+
+-- Forms that say the same use the same.
+pub in-use-same : (f g : Form) (u y c : ℕ) → ((e : ℕ) → e < c → f e ≡ g e) → in-use f u y c ≡ in-use g u y c
+unfolding in-use
+in-use-same f g u y zero h = refl
+in-use-same f g u y (suc c) h = ap₂ _+_ (in-use-same f g u y c (λ e l. h e (omega arith))) (ap (uses-of u y c) (h c (omega arith)))
 
 -- The machine counts the same.
 module _ {V : Type 0} (dom : Domain V) (k : ℕ) where
