@@ -4,7 +4,7 @@ use mathlib.Core.List.{List, [], _∷_}
 use mathlib.Core.Bool.{Bool, true, false, not, cond, _&&_, _||_}
 use lib.Dec.{eqb, leb, ltb}
 use lib.ListN.{length}
-use Rattle.model.specs.Loop.{Operation, operands, makes, in-memory, stride-of, offset-of, cell}
+use Rattle.model.specs.Loop.{operands, makes, in-memory, stride-of, offset-of, cell}
 use Rattle.model.specs.Domains.{Domain}
 use Rattle.model.specs.Plain.{written, evaluate}
 use Rattle.model.specs.Issues.{Source, constant, register, Slot, Form, iteration-in}

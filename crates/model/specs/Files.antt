@@ -1,5 +1,5 @@
 -- What a run leaves in the two files: of each register the last instance that landed in it, and the last that was issued to it.
-use Prim.Native.Nat.{ℕ, zero, suc, _+_, _-_, _*_}
+use Prim.Native.Nat.{ℕ, zero, suc, _+_, _-_}
 use mathlib.Core.Bool.{Bool, cond, _&&_}
 use lib.Dec.{eqb, leb}
 use lib.ListN.{length}

@@ -11,7 +11,7 @@ use Rattle.model.specs.MemoryOrder.{Touches}
 use Rattle.model.specs.Schemes.{Apart}
 use Rattle.model.specs.ScheduleLives.{lives-table}
 use Rattle.model.specs.Domains.{Domain}
-use Rattle.model.specs.Plain.{State, plain}
+use Rattle.model.specs.Plain.{plain}
 use Rattle.model.specs.Issues.{Slot, Form, passes, cycles, issues, iteration-of, home-of, slot-of, issues-at}
 use Rattle.model.specs.Driving.{Waiting, Machine, fresh, Outcome, finished, standing, passed, use-of, lands, land, examine, slot-iteration, slot-result, run, drive}
 use Rattle.model.specs.Files.{made, last-issued, last-landed, value-entry, waiting-entry}

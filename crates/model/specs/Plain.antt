@@ -1,7 +1,7 @@
 -- The plain loop: iterations from 0, each in text order.
-use Prim.Native.Nat.{ℕ, zero, suc, _+_, _-_, _*_}
+use Prim.Native.Nat.{ℕ, zero, suc, _-_}
 use mathlib.Core.List.{List}
-use mathlib.Core.Bool.{Bool, true, false, cond, _&&_}
+use mathlib.Core.Bool.{cond, _&&_}
 use lib.Dec.{eqb, leb}
 use lib.ListN.{getD, set, length}
 use lib.IntN.{ℤ, pos}

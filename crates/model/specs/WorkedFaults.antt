@@ -6,7 +6,7 @@ use lib.IntN.{pos}
 use Rattle.model.specs.Loop.{Operation, load, store, move}
 use Rattle.model.specs.Domains.{words}
 use Rattle.model.specs.Issues.{Source, constant, register, Slot, Form}
-use Rattle.model.specs.Driving.{Waiting, Fault, Outcome, finished, stopped, Machine, fresh, drive}
+use Rattle.model.specs.Driving.{Waiting, Outcome, finished, stopped, Machine, fresh, drive}
 use Rattle.model.specs.declared.Question.{Question}
 use Rattle.model.specs.declared.Question.the-variants.{UnitFree, OperandsLanded, IterationRuns, CellInMemory, ResultFree}
 

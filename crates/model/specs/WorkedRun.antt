@@ -11,7 +11,7 @@ use Rattle.model.specs.SchemeLaws.{sum-lives}
 use Rattle.model.specs.Domains.{words}
 use Rattle.model.specs.Plain.{plain}
 use Rattle.model.specs.Issues.{passes, cycles, home-of, issues-at}
-use Rattle.model.specs.Driving.{Waiting, Machine, Outcome, fresh, standing, drive}
+use Rattle.model.specs.Driving.{Waiting, Machine, fresh, standing, drive}
 use Rattle.model.specs.ScheduleLives.{lives-table}
 use Rattle.model.specs.Pipelining.{InMemory}
 

@@ -7,7 +7,7 @@ use native.Mathlib.Omega.{arith}
 use lib.Dec.{leb}
 use lib.ListN.{length}
 use Rattle.std.proofs.shelf.Tests.{cases-eq, cases-bool, leb-true}
-use Rattle.model.specs.Loop.{Loop, Operand, literal, variable, Operation, op, EachOperand, makes, Hardware, Named}
+use Rattle.model.specs.Loop.{Loop, Operand, literal, variable, op, EachOperand, makes, Hardware, Named}
 use Rattle.model.specs.Schedule.{Schedule}
 use Rattle.model.specs.MemoryOrder.{issue-cycle, Met}
 use Rattle.model.specs.ScheduleLives.{ReadInLife}
@@ -17,15 +17,15 @@ use Rattle.model.specs.Issues.{Source, constant, register, issues, iteration-of
 use Rattle.model.specs.Driving.{Waiting, Machine, source-value, slot-result, land}
 use Rattle.model.specs.declared.Status.the-variants.{Never, Waits, Landed}
 use Rattle.pipelining.proofs.Effects.{each-operand, both-operands}
-use Rattle.pipelining.proofs.Timed.{beat, timed}
+use Rattle.pipelining.proofs.Timed.{timed}
 use Rattle.pipelining.proofs.Sound.{Sound}
 use Rattle.pipelining.proofs.Placed.{Lives, Placed}
 use Rattle.pipelining.proofs.Issue.{issued, will-issue, minus-times}
 use Rattle.pipelining.proofs.Cycle.{timed-length, cycle-kept, cycle-value}
-use Rattle.pipelining.proofs.Run.{timed-is-plain, timed-right, timed-value}
+use Rattle.pipelining.proofs.Run.{timed-is-plain, timed-right}
 use Rattle.pipelining.proofs.Landing.{never-waits, lands-now, lands-later, landed-before, waits-still}
 use Rattle.pipelining.proofs.Driven.{driven}
-use Rattle.pipelining.proofs.Row.{makes-on, evaluate-on, values-stay, memory-then, register-then}
+use Rattle.pipelining.proofs.Row.{evaluate-on, values-stay, memory-then, register-then}
 
 -- A register that a source names has landed.
 abbrev pub Landing : {V : Type 0} → Machine V → Source → Type 0

@@ -1,9 +1,8 @@
 -- The machine on a code form, as long as no question is answered no.
 use Prim.Native.Nat.{ℕ, zero, suc}
-use mathlib.Core.Path.{_≡_, refl}
 use Rattle.model.specs.Domains.{Domain}
 use Rattle.model.specs.Issues.{Form}
-use Rattle.model.specs.Driving.{Machine, finished, passed, land, examine, issue-all, cycle, run}
+use Rattle.model.specs.Driving.{Machine, land, issue-all}
 
 module _ {V : Type 0} (dom : Domain V) (k : ℕ) (form : Form) where
   unfoldable pub driven : ℕ → Machine V → Machine V

@@ -1,19 +1,17 @@
 -- The slots of a row, examined one behind the other.
-use Prim.Native.Nat.{ℕ, zero, suc, _+_, _-_, _/_, _<_, _≤_}
-use mathlib.Core.Path.{_≡_, refl, sym, ap, _∙_}
+use Prim.Native.Nat.{ℕ, zero, suc, _+_, _/_, _<_, _≤_}
+use mathlib.Core.Path.{_≡_, refl, sym}
 use mathlib.Core.List.{List, [], _∷_, _++_}
-use mathlib.Core.Bool.{Bool, true, false, not, cond, _&&_, _||_}
+use mathlib.Core.Bool.{Bool, true, false, not, _||_}
 use mathlib.Core.Logic.{_⊎_, inl, inr}
 use native.Mathlib.Omega.{arith}
 use lib.Dec.{ltb}
-use lib.ListN.{length}
 use Rattle.std.proofs.shelf.Lists.{append-nil}
-use Rattle.std.proofs.shelf.Tests.{cases-eq, cases-bool, eq-eqb, ne-eqb, lt-ltb, and-from}
+use Rattle.std.proofs.shelf.Tests.{cases-eq, cases-bool, ne-eqb, lt-ltb, and-from}
 use Rattle.model.specs.Loop.{Loop, Operation, load, store, binary, move, op, cell, Loads, Stores, EachOperand, operands, makes, in-memory, stride-of, offset-of, on-operands, Hardware}
 use Rattle.model.specs.Schedule.{Schedule}
 use Rattle.model.specs.Issues.{Slot, issues, iteration-of, slot-of, slots}
-use Rattle.model.specs.Driving.{Machine, passed, all-below, all-of, use-of, reserved, unit-free, operands-landed, iteration-runs, cell-in-memory, result-free, slot-iteration, examine}
-use Rattle.model.specs.declared.Status.the-variants.{Waits}
+use Rattle.model.specs.Driving.{Machine, passed, all-below, all-of, reserved, unit-free, operands-landed, iteration-runs, cell-in-memory, result-free, slot-iteration, examine}
 use Rattle.pipelining.proofs.Row.{makes-on}
 use Rattle.model.specs.Pipelining.{uses-of}
 

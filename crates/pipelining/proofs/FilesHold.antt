@@ -1,7 +1,7 @@
 -- What the value entries and the waiting entries hold.
 use Prim.Native.Nat.{ℕ, zero, suc, _+_, _-_, _*_, _<_, _≤_}
 use mathlib.Core.Path.{_≡_, refl, sym, ap, ap₂, _∙_}
-use mathlib.Core.Bool.{true, false, _&&_}
+use mathlib.Core.Bool.{true, _&&_}
 use mathlib.Core.List.{List, [], _∷_}
 use mathlib.Core.Logic.{_⊎_, inl, inr}
 use native.Mathlib.Omega.{arith}
@@ -9,15 +9,15 @@ use lib.Dec.{eqb, leb}
 use lib.ListN.{length}
 use Rattle.std.specs.shelf.Lists.{All}
 use Rattle.std.proofs.shelf.Tests.{cases-eq, cases-bool, both-ways, eqb-true, leb-true, eq-eqb, ne-eqb, le-leb, and-parts, and-from}
-use Rattle.model.specs.Loop.{Loop, Operand, literal, variable, op, makes, Hardware}
+use Rattle.model.specs.Loop.{Loop, op, makes, Hardware}
 use Rattle.model.specs.Schedule.{Schedule}
 use Rattle.model.specs.MemoryOrder.{issue-cycle}
 use Rattle.model.specs.Domains.{Domain}
 use Rattle.model.specs.Plain.{State, iterations}
 use Rattle.model.specs.Issues.{Slot, issues, iteration-of, slot-of, issues-at}
-use Rattle.model.specs.Driving.{Waiting, Machine, slot-result, land, issue, issue-all}
-use Rattle.model.specs.declared.Status.the-variants.{Never, Waits, Landed}
-use Rattle.model.specs.Files.{Instance, nothing, made, reaches, latest-in, latest, last-issued, last-landed, value-entry, waiting-entry}
+use Rattle.model.specs.Driving.{Machine, slot-result, land, issue, issue-all}
+use Rattle.model.specs.declared.Status.the-variants.{Never}
+use Rattle.model.specs.Files.{Instance, made, reaches, latest-in, latest, last-issued, last-landed, value-entry, waiting-entry}
 use Rattle.pipelining.proofs.Sound.{Sound}
 use Rattle.pipelining.proofs.Placed.{Lives, Placed}
 use Rattle.pipelining.proofs.Issue.{issued, will-issue}
@@ -25,7 +25,7 @@ use Rattle.pipelining.proofs.Landing.{lands-now, value-kept}
 use Rattle.pipelining.proofs.Driven.{driven}
 use Rattle.pipelining.proofs.Row.{values-stay, register-then}
 use Rattle.pipelining.proofs.Run.{timed-value}
-use Rattle.pipelining.proofs.Drive.{now, then, Made, landing, Kept, kept-at, alive-at, machine-right}
+use Rattle.pipelining.proofs.Drive.{then, Made, Kept, kept-at, alive-at, machine-right}
 
 module _ (ops : Loop) (w : Schedule) (trips : ℕ) (home : ℕ → ℕ → ℕ) (delay : ℕ → ℕ) (positive : 0 < w .interval) where
   -- What operation j makes in iteration i reaches register r in cycle c.

@@ -1,10 +1,10 @@
 -- What the start of a cycle does to one register.
 use Prim.Native.Nat.{ℕ}
 use mathlib.Core.Path.{_≡_, refl}
-use mathlib.Core.Bool.{true, false}
+use mathlib.Core.Bool.{false}
 use native.Mathlib.Omega.{arith}
 use Rattle.std.proofs.shelf.Tests.{eq-eqb, ne-eqb}
-use Rattle.model.specs.Driving.{Machine, awaits, has-landed, lands, land}
+use Rattle.model.specs.Driving.{Machine, awaits, lands, land}
 use Rattle.model.specs.declared.Status.{Status}
 use Rattle.model.specs.declared.Status.the-variants.{Never, Waits, Landed}
 

@@ -1,20 +1,18 @@
 -- The lives of a schedule last long enough, and not too long; and a scheme's law by variables is one by operations.
-use Prim.Native.Nat.{ℕ, zero, suc, max, _+_, _-_, _*_, _<_, _≤_}
-use mathlib.Core.Path.{_≡_, refl, sym, ap, _∙_}
-use mathlib.Core.Bool.{Bool, true, false, cond}
-use mathlib.Core.List.{List, [], _∷_, _++_}
-use mathlib.Core.Logic.{_⊎_, inl, inr}
+use Prim.Native.Nat.{ℕ, zero, suc, _+_, _*_, _<_, _≤_}
+use mathlib.Core.Path.{_≡_, refl, _∙_}
+use mathlib.Core.Bool.{true}
+use mathlib.Core.Logic.{inl, inr}
 use native.Mathlib.Nat.{mul-le-mul-right}
 use native.Mathlib.Omega.{arith}
-use lib.Dec.{eqb}
 use lib.ListN.{length, getD, length-append}
 use Rattle.std.specs.shelf.Lists.{All}
 use Rattle.std.proofs.shelf.Elements.{all-append, all-getD}
-use Rattle.std.proofs.shelf.Lists.{append-nil, getD-append-left, getD-push}
+use Rattle.std.proofs.shelf.Lists.{getD-append-left, getD-push}
 use Rattle.std.proofs.shelf.Tests.{cases-eq, cases-order, cases-bool, eq-eqb, ne-eqb}
 use Rattle.model.specs.Loop.{Loop, Operand, literal, variable, Operation, load, store, binary, move, op, EachOperand, makes, Hardware, Named, WellFormed}
 use Rattle.model.specs.Schedule.{Schedule, FewStages}
-use Rattle.model.specs.Lives.{Table, no-life, life, LifeWithin, Limits, Alive}
+use Rattle.model.specs.Lives.{no-life, LifeWithin, Limits, Alive}
 use Rattle.model.specs.Schemes.{Apart}
 use Rattle.model.specs.Issues.{variable-number, home-of}
 use Rattle.model.specs.ScheduleLives.{read-at, greatest, last-read, life-end, life-of, lives-of, lives-table, ReadInLife, Lasting}

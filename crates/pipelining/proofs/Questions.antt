@@ -1,30 +1,30 @@
 -- No question is answered no.
-use Prim.Native.Nat.{ℕ, zero, suc, _+_, _-_, _*_, _/_, _<_, _≤_}
-use mathlib.Core.Path.{_≡_, refl, sym, ap, ap₂, _∙_}
-use mathlib.Core.Bool.{Bool, true, false, not, cond, _&&_, _||_}
-use mathlib.Core.Logic.{_⊎_, inl, inr}
+use Prim.Native.Nat.{ℕ, zero, suc, _+_, _-_, _*_, _<_, _≤_}
+use mathlib.Core.Path.{_≡_, refl, sym, ap, _∙_}
+use mathlib.Core.Bool.{true, not}
+use mathlib.Core.Logic.{inl, inr}
 use native.Mathlib.Omega.{arith}
 use lib.Dec.{leb}
 use lib.ListN.{length}
-use Rattle.std.proofs.shelf.Tests.{cases-eq, cases-bool, leb-true, le-leb, lt-ltb, and-from}
-use Rattle.model.specs.Loop.{Loop, Operand, literal, variable, op, EachOperand, makes, Hardware}
+use Rattle.std.proofs.shelf.Tests.{cases-bool, leb-true, le-leb, lt-ltb, and-from}
+use Rattle.model.specs.Loop.{Loop, Operand, literal, variable, op, makes, Hardware}
 use Rattle.model.specs.Schedule.{Schedule, RowsFit}
 use Rattle.model.specs.MemoryOrder.{issue-cycle}
 use Rattle.model.specs.Domains.{Domain}
 use Rattle.model.specs.Plain.{State}
-use Rattle.model.specs.Issues.{Slot, Form, issues, iteration-in, iteration-of, source, slot-of, slots, issues-at}
-use Rattle.model.specs.Driving.{Machine, finished, passed, awaits, has-landed, land, readable, unit-free, operands-landed, cell-in-memory, result-free, examine, cycle, run}
-use Rattle.model.specs.declared.Status.the-variants.{Never, Waits, Landed}
+use Rattle.model.specs.Issues.{Form, issues, iteration-in, iteration-of, source, slot-of, slots, issues-at}
+use Rattle.model.specs.Driving.{Machine, finished, passed, has-landed, land, readable, unit-free, operands-landed, cell-in-memory, result-free, examine, cycle, run}
+use Rattle.model.specs.declared.Status.the-variants.{Never}
 use Rattle.pipelining.proofs.Effects.{each-operand}
 use Rattle.pipelining.proofs.Sound.{Sound}
-use Rattle.pipelining.proofs.Placed.{Lives, Placed}
+use Rattle.pipelining.proofs.Placed.{Placed}
 use Rattle.pipelining.proofs.Issue.{issued, minus-times}
 use Rattle.pipelining.proofs.Landing.{not-waiting}
 use Rattle.pipelining.proofs.Driven.{driven}
 use Rattle.pipelining.proofs.Row.{makes-on}
 use Rattle.pipelining.proofs.Units.{taken-is, unit-left}
-use Rattle.pipelining.proofs.Examine.{all-below-true, all-of-on, cell-fine, Yes, examined, reserve-all, memory-reserved, taken-reserved, found, found-then, row-yes}
-use Rattle.pipelining.proofs.Drive.{now, Made, landing, Kept, kept-at, read-right, alive-at, no-clash, Known, operands-known, target-free, memory-length}
+use Rattle.pipelining.proofs.Examine.{all-below-true, all-of-on, cell-fine, Yes, examined, memory-reserved, taken-reserved, found, found-then, row-yes}
+use Rattle.pipelining.proofs.Drive.{Made, Kept, kept-at, read-right, alive-at, no-clash, Known, operands-known, target-free, memory-length}
 
 module _ {V : Type 0} (dom : Domain V) (ops : Loop) (hw : Hardware) (w : Schedule) (trips : ℕ) (home : ℕ → ℕ → ℕ) (life-end : ℕ → ℕ) (start : State V) (m : Machine V)
     (sound : Sound ops hw w trips (length (start .memory))) (placed : Placed ops hw w home life-end)

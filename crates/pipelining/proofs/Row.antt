@@ -9,7 +9,7 @@ use Rattle.std.specs.shelf.Lists.{All}
 use Rattle.std.proofs.shelf.Lists.{append-nil}
 use Rattle.std.proofs.shelf.Elements.{all-append}
 use Rattle.std.proofs.shelf.Tests.{cases-eq, cases-bool, both-ways, eq-eqb, ne-eqb}
-use Rattle.model.specs.Loop.{Loop, Operation, load, store, binary, move, op, Loads, Stores, EachOperand, operands, in-memory, stride-of, offset-of, makes, on-operands, Hardware}
+use Rattle.model.specs.Loop.{Loop, Operation, load, store, binary, move, op, Loads, Stores, EachOperand, makes, on-operands, Hardware}
 use Rattle.model.specs.Schedule.{Schedule}
 use Rattle.model.specs.Domains.{Domain}
 use Rattle.model.specs.Plain.{State, written, evaluate, result, perform}

@@ -9,13 +9,13 @@ use lib.ListN.{length, getD}
 use Rattle.std.proofs.shelf.Lists.{ext-getD}
 use Rattle.std.proofs.shelf.Bits.{div-mul-add, mod-mul-add}
 use Rattle.std.proofs.shelf.Tests.{cases-eq, cases-lt}
-use Rattle.model.specs.Loop.{Loop, Operation, Operand, literal, variable, op, Loads, Stores, Hardware, Named}
+use Rattle.model.specs.Loop.{Loop, Operand, literal, variable, op, Loads, Stores, Hardware, Named}
 use Rattle.model.specs.Schedule.{Schedule}
 use Rattle.model.specs.MemoryOrder.{issue-cycle, Earlier, Met}
 use Rattle.model.specs.Domains.{Domain}
 use Rattle.model.specs.Plain.{State, nought, operand-value, result, iterations}
 use Rattle.model.specs.Issues.{issues, iteration-of}
-use Rattle.pipelining.proofs.Timed.{beat, timed}
+use Rattle.pipelining.proofs.Timed.{timed}
 use Rattle.pipelining.proofs.Sound.{Sound}
 use Rattle.pipelining.proofs.Effects.{result-same, operand-same, literal-same, both-operands, loads-only}
 use Rattle.pipelining.proofs.Order.{earlier-of-lt, lt-of-earlier}

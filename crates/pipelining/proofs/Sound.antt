@@ -1,12 +1,10 @@
 -- Everything that the run relies on.
 use Prim.Native.Nat.{ℕ, _+_, _≤_, _<_}
-use mathlib.Core.Logic.{_⊎_, inl, inr}
+use mathlib.Core.Logic.{_⊎_}
 use lib.ListN.{length}
-use native.Mathlib.Omega.{arith}
 use Rattle.model.specs.Loop.{Loop, op, Loads, Stores, EachOperand, Hardware, WellFormed}
-use Rattle.model.specs.Schedule.{Schedule, IsSchedule, FewStages}
-use Rattle.model.specs.MemoryOrder.{issue-cycle, Earlier, Met, MemoryInOrder, OperandsLanded}
-use Rattle.model.specs.Pipelining.{InMemory}
+use Rattle.model.specs.Schedule.{Schedule}
+use Rattle.model.specs.MemoryOrder.{issue-cycle, Earlier, Met}
 
 pub record Sound (ops : Loop) (hw : Hardware) (w : Schedule) (trips : ℕ) (cells : ℕ) : Type 0 where
   pub positive : 0 < w .interval

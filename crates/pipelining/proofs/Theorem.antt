@@ -1,22 +1,20 @@
 -- The pipelining theorem.
-use Prim.Native.Nat.{ℕ, suc, _+_, _-_, _*_, _/_, _<_, _≤_}
-use mathlib.Core.Path.{_≡_, refl, sym, ap, subst, _∙_}
-use mathlib.Core.Bool.{true, false}
+use Prim.Native.Nat.{ℕ, suc, _+_, _-_, _*_, _<_, _≤_}
+use mathlib.Core.Path.{_≡_, refl, sym, ap, _∙_}
+use mathlib.Core.Bool.{true}
 use mathlib.Core.List.{List}
 use native.Mathlib.Omega.{arith}
 use lib.ListN.{length}
-use Rattle.std.specs.shelf.Lists.{All}
-use Rattle.model.specs.Loop.{Loop, Operand, literal, variable, op, EachOperand, makes, Hardware, WellFormed}
+use Rattle.model.specs.Loop.{Loop, Operand, literal, variable, op, Hardware, WellFormed}
 use Rattle.model.specs.Schedule.{Schedule, IsSchedule, FewStages}
 use Rattle.model.specs.MemoryOrder.{issue-cycle}
 use Rattle.model.specs.Schemes.{Apart}
 use Rattle.model.specs.ScheduleLives.{life-end, lives-table, LivesLast}
 use Rattle.model.specs.Domains.{Domain}
-use Rattle.model.specs.Plain.{State, begun, iterations}
-use Rattle.model.specs.Issues.{Form, cycles, issues, iteration-in, iteration-of, home-of, slot-of, issues-at}
-use Rattle.model.specs.Driving.{Waiting, Machine, fresh, Outcome, finished, standing, lands, land, run}
-use Rattle.model.specs.Files.{last-landed, made}
-use Rattle.model.specs.Pipelining.{InMemory, Means, InRange, ReadsRight, Pipelined, Pipelining}
+use Rattle.model.specs.Plain.{State, begun}
+use Rattle.model.specs.Issues.{Form, cycles, issues, iteration-of, home-of, issues-at}
+use Rattle.model.specs.Driving.{Waiting, Machine, fresh, Outcome, finished, standing, land, run}
+use Rattle.model.specs.Pipelining.{InMemory, Means, InRange, ReadsRight, Pipelined}
 use Rattle.pipelining.proofs.Effects.{each-operand}
 use Rattle.pipelining.proofs.Sound.{Sound}
 use Rattle.pipelining.proofs.Placed.{Placed}

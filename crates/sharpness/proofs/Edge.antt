@@ -1,14 +1,13 @@
 -- What holds of the first case whatever the times are, and what is left to their values.
-use Prim.Native.Nat.{ℕ, zero, suc, _+_, _*_, _<_, _≤_}
+use Prim.Native.Nat.{ℕ, zero, suc, _+_, _<_, _≤_}
 use mathlib.Core.Path.{_≡_, refl, sym, ap, _∙_}
 use mathlib.Core.List.{List, [], _∷_}
-use mathlib.Core.Logic.{_⊎_, inl, inr}
+use mathlib.Core.Logic.{inl, inr}
 use native.Mathlib.Omega.{arith}
-use lib.ListN.{length, getD}
+use lib.ListN.{getD}
 use Rattle.model.specs.Loop.{op, EachOperand, Named, WellFormed}
-use Rattle.model.specs.Edges.{EdgeMet, meets, joins, edges}
+use Rattle.model.specs.Edges.{meets, joins, edges}
 use Rattle.model.specs.Schedule.{RowsFit, FewStages}
-use Rattle.model.specs.Lives.{Table, Alive}
 use Rattle.model.specs.ScheduleLives.{last-read, lives-of, lives-table}
 use Rattle.model.specs.Schemes.{Apart}
 use Rattle.model.specs.Pipelining.{InMemory}

@@ -1,20 +1,19 @@
 -- What holds of the second case whatever the registers are, and what is left to their values.
-use Prim.Native.Nat.{ℕ, zero, suc, _+_, _*_, _<_, _≤_}
+use Prim.Native.Nat.{ℕ, zero, suc, _<_}
 use mathlib.Core.Path.{_≡_, refl, sym, ap, _∙_}
 use mathlib.Core.List.{List, [], _∷_}
-use mathlib.Core.Logic.{_⊎_, inl, inr}
+use mathlib.Core.Logic.{inl, inr}
 use native.Mathlib.Omega.{arith}
-use lib.ListN.{length, getD}
+use lib.ListN.{getD}
 use Rattle.std.proofs.shelf.Ways.{tells}
 use Rattle.std.specs.shelf.Lists.{All}
 use Rattle.model.specs.Loop.{op, EachOperand, Named, WellFormed}
 use Rattle.model.specs.Edges.{EdgeMet, meets, joins, edges}
-use Rattle.model.specs.Schedule.{IsSchedule, RowsFit, FewStages}
-use Rattle.model.specs.Lives.{Table, Alive}
+use Rattle.model.specs.Schedule.{RowsFit, FewStages}
+use Rattle.model.specs.Lives.{Alive}
 use Rattle.model.specs.ScheduleLives.{last-read, lives-of, lives-table}
-use Rattle.model.specs.Schemes.{Apart}
 use Rattle.model.specs.Pipelining.{InMemory}
-use Rattle.sharpness.specs.Cases.{timed, fixed, machine-leaves, plain-leaves}
+use Rattle.sharpness.specs.Cases.{timed, machine-leaves, plain-leaves}
 use Rattle.sharpness.specs.BrokenLaw.{loop, hardware, times, with-registers, BrokenLaw}
 
 named : (q : ℕ) → q < 4 → EachOperand (Named loop q) (op loop q)

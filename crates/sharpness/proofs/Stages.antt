@@ -1,16 +1,15 @@
 -- What holds of the third case whatever the times are, and what is left to their values.
-use Prim.Native.Nat.{ℕ, zero, suc, _+_, _*_, _/_, _%_, _<_, _≤_}
+use Prim.Native.Nat.{ℕ, zero, suc, _+_, _/_, _%_, _<_, _≤_}
 use mathlib.Core.Path.{_≡_, refl, sym, ap, _∙_}
 use mathlib.Core.List.{List, [], _∷_}
-use mathlib.Core.Logic.{_⊎_, inl, inr}
+use mathlib.Core.Logic.{inl, inr}
 use native.Mathlib.Omega.{arith}
-use lib.ListN.{length, getD}
+use lib.ListN.{getD}
 use Rattle.std.specs.shelf.Lists.{All}
 use Rattle.std.proofs.shelf.Tests.{cases-order}
 use Rattle.model.specs.Loop.{op, EachOperand, Named, WellFormed}
 use Rattle.model.specs.Edges.{EdgeMet, meets, joins, edges}
-use Rattle.model.specs.Schedule.{stages, IsSchedule, RowsFit, FewStages}
-use Rattle.model.specs.Lives.{Table, Alive}
+use Rattle.model.specs.Schedule.{stages, RowsFit}
 use Rattle.model.specs.ScheduleLives.{last-read, lives-of, lives-table}
 use Rattle.model.specs.Schemes.{Apart}
 use Rattle.model.specs.Pipelining.{InMemory}

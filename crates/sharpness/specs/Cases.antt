@@ -1,6 +1,5 @@
 -- A concrete run: a loop on a machine, a schedule, places and a memory of words.
 use Prim.Native.Nat.{ℕ}
-use mathlib.Core.Path.{_≡_}
 use mathlib.Core.List.{List}
 use lib.ListN.{length, getD}
 use Rattle.model.specs.Loop.{Loop, Hardware}

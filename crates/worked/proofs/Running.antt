@@ -1,15 +1,14 @@
 -- The running sum: the theorem's hypotheses, and the runs computed.
-use Prim.Native.Nat.{ℕ, zero, suc, _+_, _*_, _<_, _≤_}
+use Prim.Native.Nat.{ℕ, zero, suc, _<_, _≤_}
 use mathlib.Core.Path.{_≡_, refl, sym, subst}
-use mathlib.Core.Logic.{_⊎_, inl, inr}
+use mathlib.Core.Logic.{inl, inr}
 use native.Mathlib.Omega.{arith}
-use lib.ListN.{length}
 use Rattle.std.specs.shelf.Lists.{All}
 use Rattle.std.proofs.shelf.Ways.{tells}
-use Rattle.model.specs.Loop.{op, EachOperand, Named, WellFormed}
+use Rattle.model.specs.Loop.{op, EachOperand, Named}
 use Rattle.model.specs.Edges.{EdgeMet, meets, joins, edges}
-use Rattle.model.specs.Schedule.{IsSchedule, RowsFit, FewStages}
-use Rattle.model.specs.Lives.{Table, LifeWithin, life, Limits}
+use Rattle.model.specs.Schedule.{RowsFit, FewStages}
+use Rattle.model.specs.Lives.{LifeWithin, life, Limits}
 use Rattle.model.specs.Schemes.{Apart, rotating, expanded}
 use Rattle.model.specs.SchemeLaws.{sum-lives}
 use Rattle.model.specs.ScheduleLives.{last-read, lives-of, lives-table}
