@@ -84,6 +84,11 @@ module _ {V : Type 0} (dom : Domain V) (ops : Loop) (hw : Hardware) (w : Schedul
     pub waiting-are : (c r : ℕ) → c ≤ cycles w (length ops) trips →
         before c .waiting r ≡ waiting-entry hw w (plain dom ops trips memory .value) (waiting r) (last-issued ops hw w trips (home-of ops place) r c)
 
+-- At most eight stages, by the greatest stage and by the times.
+abbrev pub StagesByTimes : Type 0
+StagesByTimes = (ops : Loop) (w : Schedule) → 0 < w .interval →
+    (stages w (length ops) ≤ 8 → FewStages ops w) × (FewStages ops w → stages w (length ops) ≤ 8)
+
 -- For every domain, loop and machine, every schedule of at most eight stages, every place function that keeps the law of places for its lives, every
 -- trip count, every memory that holds the cells, whatever the files hold, and every code form that means what issues.
 abbrev pub Pipelining : Type 0 → Type 0

@@ -25,12 +25,6 @@ each-weaker P Q (store a stride offset) f h = f a h
 each-weaker P Q (binary code a b) f h = (f a (h .0), f b (h .1))
 each-weaker P Q (move a) f h = f a h
 
-each-of : {A : Type 0} (Q : A → Type 0) (o : Operation A) → ((a : A) → Q a) → EachOperand Q o
-each-of Q (load stride offset) f = tt
-each-of Q (store a stride offset) f = f a
-each-of Q (binary code a b) f = (f a, f b)
-each-of Q (move a) f = f a
-
 each-greatest : {A : Type 0} (f : ℕ → A → ℕ) (o : Operation A) → EachOperand (λ a. (v : ℕ) → f v a ≤ greatest (f v) o) o
 each-greatest f (load stride offset) = tt
 each-greatest f (store a stride offset) = λ v. omega arith

@@ -2,21 +2,32 @@
 use Prim.Native.Nat.{ℕ, zero, suc, _+_, _-_, _*_, _<_, _≤_}
 use mathlib.Core.Path.{_≡_, refl}
 use mathlib.Core.Logic.{inl, inr}
-use native.Mathlib.Nat.{mul-le-mul-right, lt-div-mul-add, zero-mul}
+use native.Mathlib.Nat.{div-lt-iff-lt-mul, mul-le-mul-right, lt-div-mul-add, zero-mul}
 use native.Mathlib.Omega.{arith}
+use lib.ListN.{length}
 use Rattle.std.proofs.shelf.Tests.{cases-eq, eq-eqb, ne-eqb}
 use Rattle.model.specs.Loop.{Loop, Operation, load, store, binary, move, Stores, Hardware, WellFormed}
 use Rattle.model.specs.Edges.{memory-delay}
 use Rattle.model.specs.Schedule.{Schedule, stage, stages, IsSchedule, FewStages}
 use Rattle.model.specs.MemoryOrder.{issue-cycle}
 use Rattle.model.specs.Issues.{cycles}
-use Rattle.model.specs.Pipelining.{InMemory}
+use Rattle.model.specs.Pipelining.{InMemory, StagesByTimes}
 use Rattle.graph_laws.proofs.Memory.{memory-in-order, operands-landed}
 use Rattle.pipelining.proofs.Sound.{Sound}
 
 pub stage-below : (w : Schedule) (n j : ℕ) → j < n → stage w j < stages w n
 stage-below w zero j h = absurd (omega arith)
 stage-below w (suc n) j h = elim (cases-eq j n) [ inl e ↦ rw e (omega arith) | inr z ↦ omega (arith, stage-below w n j (omega arith)) ]
+
+stages-below : (w : Schedule) (n b : ℕ) → ((j : ℕ) → j < n → stage w j < b) → stages w n ≤ b
+stages-below w zero b h = omega arith
+stages-below w (suc n) b h = omega (arith, stages-below w n b (λ j l. h j (omega arith)), h n (omega arith))
+
+pub stages-by-times : StagesByTimes
+stages-by-times ops w pos = (
+  (λ h j hj. div-lt-iff-lt-mul {x = w .time j} pos .0 (omega (arith, stage-below w (length ops) j hj))),
+  (λ few. stages-below w (length ops) 8 (λ j hj. div-lt-iff-lt-mul {x = w .time j} pos .1 (few j hj))),
+)
 
 pub no-cycles : (w : Schedule) (n trips : ℕ) → trips ≡ 0 → cycles w n trips ≡ 0
 no-cycles w n trips e = rw (eq-eqb trips 0 e) (zero-mul (w .interval))

@@ -9,7 +9,7 @@ use Rattle.std.specs.shelf.Lists.{All}
 use Rattle.std.proofs.shelf.Lists.{append-nil}
 use Rattle.std.proofs.shelf.Elements.{all-append}
 use Rattle.std.proofs.shelf.Tests.{cases-eq, cases-bool, both-ways, eq-eqb, ne-eqb}
-use Rattle.model.specs.Loop.{Loop, Operation, load, store, binary, move, op, Loads, Stores, EachOperand, makes, on-operands, Hardware}
+use Rattle.model.specs.Loop.{Loop, Operation, load, store, binary, move, op, EachOperand, makes, on-operands, Hardware}
 use Rattle.model.specs.Schedule.{Schedule}
 use Rattle.model.specs.Domains.{Domain}
 use Rattle.model.specs.Plain.{State, written, evaluate, result, perform}
@@ -32,12 +32,6 @@ written-on f (store a stride offset) i v memory = refl
 written-on f (binary code a b) i v memory = refl
 written-on f (move a) i v memory = refl
 
-pub loads-on : {A B : Type 0} (f : A → B) (o : Operation A) (i x : ℕ) → Loads (on-operands f o) i x ⊎ Stores (on-operands f o) i x → Loads o i x ⊎ Stores o i x
-loads-on f (load stride offset) i x h = h
-loads-on f (store a stride offset) i x h = h
-loads-on f (binary code a b) i x h = h
-loads-on f (move a) i x h = h
-
 pub evaluate-on : {A B V : Type 0} (dom : Domain V) (f : A → B) (worth : B → V) (value : A → V) (o : Operation A) (i : ℕ) (memory : List V) →
     EachOperand (λ a. worth (f a) ≡ value a) o → evaluate dom worth (on-operands f o) i memory ≡ evaluate dom value o i memory
 unfolding evaluate
@@ -45,12 +39,6 @@ evaluate-on dom f worth value (load stride offset) i memory same = refl
 evaluate-on dom f worth value (store a stride offset) i memory same = same
 evaluate-on dom f worth value (binary code a b) i memory same = ap₂ (dom .apply code) (same .0) (same .1)
 evaluate-on dom f worth value (move a) i memory same = same
-
-pub each-on : {A B : Type 0} (f : A → B) (P : B → Type 0) (o : Operation A) → EachOperand (λ a. P (f a)) o → EachOperand P (on-operands f o)
-each-on f P (load stride offset) h = tt
-each-on f P (store a stride offset) h = h
-each-on f P (binary code a b) h = h
-each-on f P (move a) h = h
 
 module _ {V : Type 0} (dom : Domain V) (ops : Loop) (hw : Hardware) (w : Schedule) (trips : ℕ) (home : ℕ → ℕ → ℕ) (c : ℕ) (seen : Machine V) where
   -- the machine after the slots of the first j operations

@@ -1,5 +1,5 @@
 // The functions that carry the pipelining theorem: it stands in their contracts.
-ghost use Rattle.model.specs.Pipelining.{Pipelining};
+ghost use Rattle.model.specs.Pipelining.{Pipelining, StagesByTimes};
 ghost use Rattle.model.specs.ScheduleLives.{LivesLast};
 
 // The driving machine, on any schedule of at most eight stages, with any lawful places and any code form that means the schedule's issues,
@@ -13,6 +13,13 @@ pub fn pipelining_stands<V>() -> u8
 // The lives of a schedule last to their landings and last reads, and fit a table of lives.
 pub fn lives_last() -> u8
     ensures { λ _. ⌜ LivesLast ⌝ }
+{
+    0
+}
+
+// At most eight stages, and all times below eight intervals, are one.
+pub fn stages_by_times() -> u8
+    ensures { λ _. ⌜ StagesByTimes ⌝ }
 {
     0
 }
