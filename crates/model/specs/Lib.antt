@@ -14,3 +14,15 @@ pub mod Minimum
 pub mod Relaxation
 pub mod Limits
 pub mod GraphLaws
+pub mod Lives
+pub mod Schemes
+pub mod Domains
+pub mod SchemeLaws
+pub mod Plain
+pub mod Issues
+pub mod Driving
+pub mod ScheduleLives
+pub mod Files
+pub mod Pipelining
+pub mod WorkedRun
+pub mod WorkedFaults

@@ -42,3 +42,28 @@ pub struct Timing {
     pub latency: usize,
     pub busy: usize,
 }
+
+// The life of a variable: its first and its last cycle.
+#[derive(Clone, Copy, PartialEq, Eq, Debug)]
+pub struct Life {
+    pub start: usize,
+    pub end: usize,
+}
+
+// Of a register of the driving machine: no write has landed, a write is awaited, a write has landed and none is awaited.
+#[derive(Clone, Copy, PartialEq, Eq, Debug)]
+pub enum Status {
+    Never,
+    Waits,
+    Landed,
+}
+
+// What the driving machine asks about each slot, in this order.
+#[derive(Clone, Copy, PartialEq, Eq, Debug)]
+pub enum Question {
+    UnitFree,
+    OperandsLanded,
+    IterationRuns,
+    CellInMemory,
+    ResultFree,
+}

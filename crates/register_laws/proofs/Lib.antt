@@ -1,0 +1,4 @@
+pub mod Modulo
+pub mod Rotating
+pub mod Expanded
+pub mod Formulas

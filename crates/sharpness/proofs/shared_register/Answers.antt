@@ -1,0 +1,12 @@
+use mathlib.Core.Path.{refl}
+use native.Mathlib.Omega.{arith}
+use Rattle.model.specs.Loop.{op}
+use Rattle.model.specs.Plain.{operand-value, evaluate, result, perform, written, remembered, iteration, iterations}
+use Rattle.model.specs.Issues.{issues-in, iteration-in, slots}
+use Rattle.model.specs.Driving.{land, reserved, examine, issue, issue-all, cycle, run}
+use Rattle.sharpness.proofs.shared_register.Needs as need
+use Rattle.sharpness.proofs.Law.{broken-law}
+
+pub returns : need.returns
+unfolding op operand-value evaluate result perform written remembered iteration iterations issues-in iteration-in slots land reserved examine issue issue-all cycle run
+returns c = broken-law _ (omega arith) refl refl

@@ -1,0 +1,4 @@
+pub mod Cases
+pub mod BrokenEdge
+pub mod BrokenLaw
+pub mod NineStages
