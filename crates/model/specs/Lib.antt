@@ -26,3 +26,4 @@ pub mod Files
 pub mod Pipelining
 pub mod WorkedRun
 pub mod WorkedFaults
+pub mod Faults

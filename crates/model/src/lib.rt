@@ -67,3 +67,12 @@ pub enum Question {
     CellInMemory,
     ResultFree,
 }
+
+// The layer in which a call is refused.
+#[derive(Clone, Copy, PartialEq, Eq, Debug)]
+pub enum Layer {
+    Text,
+    Graph,
+    Plan,
+    Code,
+}

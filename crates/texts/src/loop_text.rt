@@ -110,7 +110,7 @@ fn is_store(code: Code) -> bool
     }
 }
 
-fn defines(s: &Statement, word: &[u8]) -> bool
+pub fn defines(s: &Statement, word: &[u8]) -> bool
     ensures { λ r. ⌜ r ≡ sameName (now (word .entry)) (statementSeen (now (s .entry)) .defines) ⌝ }
 {
     match s.defines {

@@ -1,0 +1,2 @@
+pub mod Definers
+pub mod Split

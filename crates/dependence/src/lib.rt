@@ -1,0 +1,5 @@
+// The loop with its definers, and its dependences.
+pub mod fault;
+pub mod loops;
+pub mod operation;
+pub mod reading;
