@@ -55,6 +55,7 @@ impl Lives {
     // The lives, variable by variable.
     pub fn as_slice(&self) -> &[Life]
         ensures lives { λ r. ⌜ now r ≡ table (now (self .entry)) .lives ⌝ }
+        ensures few { λ r. ⌜ length (now r) ≤ 32 ⌝ }
         ensures limits { λ _. ⌜ Limits (table (now (self .entry))) ⌝ }
     {
         &self.lives[0..self.count]
