@@ -1,7 +1,7 @@
 // How the rotating scheme gives registers: each pass turns them by one.
 ghost use mathlib.Core.Path.{_≡_};
 ghost use mathlib.Core.Bool.{true};
-ghost use Prim.Native.Nat.{ℕ, _≤_, _<_};
+ghost use Prim.Native.Nat.{ℕ, _<_};
 ghost use lib.ListN.{length, getD};
 ghost use Rattle.std.specs.Options.{isSome};
 ghost use Rattle.model.specs.Schemes.{rotating-need, rotating-base, rotating, no-lives};

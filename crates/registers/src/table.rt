@@ -1,11 +1,10 @@
 // How a table of lives is made, filled and read.
 ghost use mathlib.Core.Path.{_≡_};
-ghost use mathlib.Core.Bool.{Bool, true, false};
-ghost use mathlib.Core.List.{[], _∷_, _++_};
-ghost use Prim.Native.Nat.{ℕ, _*_, _≤_, _<_};
+ghost use mathlib.Core.List.{[]};
+ghost use Prim.Native.Nat.{_≤_};
 ghost use lib.ListN.{length};
 ghost use Rattle.std.specs.Options.{Cases as BySome};
-ghost use Rattle.model.specs.Lives.{LifeWithin, Limits};
+ghost use Rattle.model.specs.Lives.{Limits};
 ghost use Rattle.registers.specs.Views.{table, Filled};
 use crate::lives::Lives;
 use model::Life;
@@ -55,6 +54,7 @@ impl Lives {
     // The lives, variable by variable.
     pub fn as_slice(&self) -> &[Life]
         ensures lives { λ r. ⌜ now r ≡ table (now (self .entry)) .lives ⌝ }
+        ensures few { λ r. ⌜ length (now r) ≤ 32 ⌝ }
         ensures limits { λ _. ⌜ Limits (table (now (self .entry))) ⌝ }
     {
         &self.lives[0..self.count]

@@ -26,7 +26,7 @@ add-life c =
 pub loop-life-again : need.loop-life-again
 loop-life-again c =
     let more = greatest-more (c .interval-interval .result) (c .as-slice-life-items .result .now) (c .loop-life .life-index) (c .loop-life-test .taken) in
-    omega (arith, c .max-turns .ensures, c .loop-life .inv)
+    omega arith
 
 pub returns : need.returns
 returns c =

@@ -8,9 +8,6 @@ use Rattle.registers.specs.Views.{table}
 use Rattle.registers.proofs.Expansions.{need-is, meaning-is, fitting}
 use Rattle.registers.proofs.expansion.ExpandedScheme.fit.Needs as need
 
-pub need-with-requires : need.need-with-requires
-need-with-requires c κs = let n = ap length (c .as-slice-count .ensures .lives) in omega (arith, c .as-slice-count .ensures .limits .few)
-
 pub ghost-self : need.ghost-self
 ghost-self c =
     let t = table (c .args .lives .now) in
@@ -19,7 +16,8 @@ ghost-self c =
     let e = c .turns-for-turns .ensures in
     let f = ap length (c .as-slice-count .ensures .lives) in
     let is = need-is t u n e f (c .need-with .result) (c .need-with .ensures) in
-    let fit = fitting t u n e f (subst (λ x. x ≤ 64) is (c .if-need-with-gt-FILE .left)) in
+    let within : expanded-need t ≤ 64 = omega arith in
+    let fit = fitting t u n e f within in
     (fit .0, (fit .1, (fit .2, tt)))
 
 pub returns : need.returns
@@ -30,7 +28,7 @@ returns c =
     let e = c .turns-for-turns .ensures in
     let f = ap length (c .as-slice-count .ensures .lives) in
     let is = need-is t u n e f (c .need-with .result) (c .need-with .ensures) in
-    let within = subst (λ x. x ≤ 64) is (c .if-need-with-gt-FILE .left) in
+    let within : expanded-need t ≤ 64 = omega arith in
     let formula = meaning-is t u n e f in
     record {
       fitted = record {

@@ -3,4 +3,6 @@ use Rattle.registers.proofs.Tables.{limits}
 use Rattle.registers.proofs.lives.Lives.as_slice.Needs as need
 
 pub returns : need.returns
-returns c = record { lives = search needs; limits = limits (c .args .self .now) }
+returns c =
+    let all = limits (c .args .self .now) in
+    record { lives = search needs; few = search needs; limits = all }

@@ -1,9 +1,8 @@
 use borrow.Author.Needs.{needs}
 use Prim.Native.Nat.{_<_}
-use mathlib.Core.Path.{_≡_, refl, ap}
+use mathlib.Core.Path.{_≡_, ap}
 use native.Mathlib.Omega.{arith}
 use lib.ListN.{length, take, length-take}
-use Rattle.model.specs.Lives.{Table}
 use Rattle.std.proofs.shelf.Lists.{take-more-set}
 use Rattle.registers.proofs.Tables.{each-more}
 use Rattle.registers.proofs.lives.Lives.push.Needs as need
@@ -12,14 +11,14 @@ pub ghost-self : need.ghost-self
 ghost-self c =
     let room : length (c .args .self .now .lives) ≡ 32 = search needs in
     let s = c .args .self .now in
-    (s .some, (s .most, (omega (arith, c .if-self-ge-MOST .left), (each-more (s .interval) (s .count) (s .lives) (c .args .life) (omega (arith, c .if-self-ge-MOST .left)) (s .each) (c .if-life-self .left, c .if-life .left, c .if-life-gt-LAST .left), tt))))
+    (s .some, (s .most, (omega arith, (each-more (s .interval) (s .count) (s .lives) (c .args .life) (omega arith) (s .each) (omega arith, omega arith, omega arith), tt))))
 
 pub returns : need.returns
 returns c =
     let room : length (c .args .self .now .lives) ≡ 32 = search needs in
     let s = c .args .self .now in
-    let few : length (take (s .count) (s .lives)) < 32 = simp length-take (omega (arith, c .if-self-ge-MOST .left)) in (
+    let few : length (take (s .count) (s .lives)) < 32 = simp length-take (omega arith) in (
       few,
-      (c .if-life-self .left, c .if-life .left, c .if-life-gt-LAST .left),
-      ap (λ ls. record { interval = s .interval; lives = ls }) (take-more-set (s .lives) (s .count) (c .args .life) (omega (arith, c .if-self-ge-MOST .left))),
+      (omega arith, omega arith, omega arith),
+      ap (λ ls. record { interval = s .interval; lives = ls }) (take-more-set (s .lives) (s .count) (c .args .life) (omega arith)),
     )

@@ -9,17 +9,13 @@ use Rattle.registers.specs.Meanings.{rotating-meaning}
 use Rattle.registers.proofs.Layouts.{laid-meaning}
 use Rattle.registers.proofs.rotation.RotatingScheme.fit.Needs as need
 
-pub ghost-self : need.ghost-self
-ghost-self c =
-    let n = ap length (c .as-slice .ensures .lives) in
-    (omega (arith, c .as-slice .ensures .limits .few), tt)
-
 pub returns : need.returns
 returns c =
     let l = c .args .lives .now in
     let t = table l in
     let formula = laid-meaning l (c .as-slice .result .now) (c .lay-out-need .result .0) (c .as-slice .ensures .lives) (c .lay-out-need .ensures .bases) in
-    let within : rotating-need t ≤ 64 = subst (λ n. n ≤ 64) (c .lay-out-need .ensures .need) (c .if-need-gt-FILE .left) in
+    let need = c .lay-out-need .ensures .need in
+    let within : rotating-need t ≤ 64 = omega arith in
     record {
       fitted = record {
         within = within;
