@@ -1,2 +1,3 @@
 pub mod Definers
 pub mod Split
+pub mod Filled

@@ -7,12 +7,12 @@ pub mod Questions
 pub mod MachineText
 pub mod LoopText
 pub mod TextLaws
+pub mod Limits
 pub mod Soundness
 pub mod MemoryOrder
 pub mod Walks
 pub mod Minimum
 pub mod Relaxation
-pub mod Limits
 pub mod GraphLaws
 pub mod Lives
 pub mod Schemes

@@ -1,7 +1,7 @@
 -- What accepted texts are known by, and the loop on its machine.
 use mathlib.Core.Path.{_≡_}
 use mathlib.Core.Bool.{Bool, true, false, _&&_, _||_}
-use mathlib.Core.List.{List, []}
+use mathlib.Core.List.{List, map}
 use Prim.Native.Nat.{ℕ, zero, suc}
 use lib.Dec.{leb, ltb, eqb}
 use lib.IntN.{ℤ, pos, negsuc}
@@ -19,6 +19,7 @@ use Rattle.model.specs.Shapes.{every, between}
 use Rattle.model.specs.MachineText.{Class, Machine, codeNumber, readMachine}
 use Rattle.model.specs.Loop.{Operand, literal, variable, Operation, load, store, binary, move, Loop, op, makes, in-memory, Hardware, WellFormed}
 use Rattle.model.specs.LoopText.{readLoop}
+use Rattle.model.specs.Limits.{MachineFits, hardware as listed}
 
 -- Each code is on a class that there is, with its latency and its busy time in range; each class has 1 to 8 units.
 abbrev pub soundTiming : ℕ → Option Timing → Bool
@@ -72,18 +73,19 @@ orNoTiming (Some t) = t
 abbrev pub timingOf : Machine → Code → Timing
 timingOf m c = orNoTiming (getD (m .timings) (codeNumber c) None)
 
--- What the machine makes of each operation of a loop.
+-- What each operation of a loop takes of the machine, and the units of each class.
+abbrev pub timingsOf : Machine → Loop → List Timing
+timingsOf m ops = map (λ o. timingOf m (code-of o)) ops
+
+abbrev pub unitsOf : Machine → List ℕ
+unitsOf m = map (λ c. c .count) (m .classes)
+
 abbrev pub hardware : Machine → Loop → Hardware
-hardware m ops =
-    record {
-      latency = λ j. timingOf m (code-of (op ops j)) .latency;
-      class = λ j. timingOf m (code-of (op ops j)) .class;
-      busy = λ j. timingOf m (code-of (op ops j)) .busy;
-      units = λ u. getD (m .classes) u (record { name = []; count = 0 }) .count;
-    }
+hardware m ops = listed (timingsOf m ops) (unitsOf m)
 
 -- Accepted texts are sound, and give a well-formed loop on its machine.
 pub record TextsAreSound : Type 0 where
   pub machines : (text : List ℕ) (m : Machine) → readMachine text ≡ Ok m → soundMachine m ≡ true
   pub loops : (text : List ℕ) (ops : Loop) → readLoop text ≡ Ok ops → soundLoop ops ≡ true
   pub well-formed : (m : Machine) (ops : Loop) → soundMachine m ≡ true → soundLoop ops ≡ true → WellFormed ops (hardware m ops)
+  pub fits : (m : Machine) (ops : Loop) → soundMachine m ≡ true → MachineFits (timingsOf m ops) (unitsOf m)

@@ -26,13 +26,13 @@ pub fn all_between(s: &[u8], lo: u8, hi: u8) -> bool
     true
 }
 
-pub fn is_name(s: &[u8]) -> bool
+pub(crate) fn is_name(s: &[u8]) -> bool
     ensures { λ r. ⌜ r ≡ isName (now (s .entry)) ⌝ }
 {
     s.len() >= 1 && s.len() <= 8 && all_between(s, b'a', b'z')
 }
 
-pub fn is_number(s: &[u8]) -> bool
+pub(crate) fn is_number(s: &[u8]) -> bool
     ensures { λ r. ⌜ r ≡ isNumber (now (s .entry)) ⌝ }
 {
     s.len() >= 1 && s.len() <= 5 && all_between(s, b'0', b'9')
@@ -84,14 +84,14 @@ pub fn after_at(s: &[u8]) -> &[u8]
 }
 
 // A minus and a number.
-pub fn is_negative(s: &[u8]) -> bool
+pub(crate) fn is_negative(s: &[u8]) -> bool
     ensures { λ r. ⌜ r ≡ isNegative (now (s .entry)) ⌝ }
 {
     byte_at(s, 0) == b'-' && is_number(tail(s, 1))
 }
 
 // A name, an @ and a number.
-pub fn is_earlier(s: &[u8]) -> bool
+pub(crate) fn is_earlier(s: &[u8]) -> bool
     ensures { λ r. ⌜ r ≡ isEarlier (now (s .entry)) ⌝ }
 {
     is_name(name_of(s)) && byte_at(s, letters(s)) == b'@' && is_number(after_at(s))

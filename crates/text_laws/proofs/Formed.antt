@@ -2,12 +2,15 @@
 use mathlib.Core.Path.{_≡_, sym, subst}
 use mathlib.Core.Bool.{true, _&&_, _||_}
 use mathlib.Core.Logic.{_⊎_, ⊎-elim}
-use mathlib.Core.List.{[]}
+use mathlib.Core.List.{List, [], _∷_, map}
 use Prim.Native.Nat.{ℕ, zero, suc, _≤_, _<_}
 use native.Mathlib.Omega.{arith}
 use lib.Dec.{ltb, leb, eqb}
 use lib.ListN.{length, getD}
-use Rattle.std.specs.shelf.Lists.{countBy}
+use lib.IntN.{pos}
+use Rattle.std.specs.shelf.Lists.{All, countBy}
+use Rattle.std.proofs.shelf.Lists.{getD-map, length-map}
+use Rattle.model.specs.Limits.{timing, TimingFits, MachineFits}
 use Rattle.std.specs.declared.option.Option.{Option}
 use Rattle.std.specs.declared.option.Option.the-variants.{Some, None}
 use Rattle.std.proofs.shelf.Tests.{ltb-true, leb-true, eqb-true, and-parts, or-cases, cases-order}
@@ -17,7 +20,7 @@ use Rattle.model.specs.declared.Timing.{Timing}
 use Rattle.model.specs.Shapes.{every, between}
 use Rattle.model.specs.Loop.{Operand, literal, variable, Operation, load, store, binary, move, Loop, op, EachOperand, makes, in-memory, Named, WellFormed}
 use Rattle.model.specs.MachineText.{Class, Machine, codeNumber}
-use Rattle.model.specs.Soundness.{soundTiming, soundMachine, soundOperand, soundOperation, soundCell, soundBelow, soundLoop, code-of, orNoTiming, timingOf, hardware}
+use Rattle.model.specs.Soundness.{soundTiming, soundMachine, soundOperand, soundOperation, soundCell, soundBelow, soundLoop, code-of, orNoTiming, timingOf, timingsOf, unitsOf, hardware}
 use Rattle.text_laws.proofs.Asked.{every-at}
 use Rattle.text_laws.proofs.SoundMachines.{counted}
 
@@ -65,7 +68,8 @@ code-low Move = omega arith
 record InRange (m : Machine) (t : Timing) : Type 0 where
   pub latency : (1 ≤ t .latency) × (t .latency ≤ 8)
   pub busy : (1 ≤ t .busy) × (t .busy ≤ t .latency)
-  pub units : (1 ≤ getD (m .classes) (t .class) (record { name = []; count = 0 }) .count) × (getD (m .classes) (t .class) (record { name = []; count = 0 }) .count ≤ 8)
+  pub known : t .class < length (m .classes)
+  pub units : (1 ≤ getD (unitsOf m) (t .class) 0) × (getD (unitsOf m) (t .class) 0 ≤ 8)
 
 module _ (m : Machine) (e : soundMachine m ≡ true) where
   in-range : (o : Option Timing) → soundTiming (length (m .classes)) o ≡ true → InRange m (orNoTiming o)
@@ -79,7 +83,8 @@ module _ (m : Machine) (e : soundMachine m ≡ true) where
       record {
         latency = between-parts 1 8 (t .latency) (b .0);
         busy = between-parts 1 (t .latency) (t .busy) (b .1);
-        units = between-parts 1 8 (getD (m .classes) (t .class) none .count) units;
+        known = ltb-true (t .class) (length (m .classes)) (a .0);
+        units = subst (λ n. (1 ≤ n) × (n ≤ 8)) (sym (getD-map (λ c. c .count) (m .classes) (t .class) none 0 (ltb-true (t .class) (length (m .classes)) (a .0)))) (between-parts 1 8 (getD (m .classes) (t .class) none .count) units);
       }
 
   timed : (c : Code) → InRange m (timingOf m c)
@@ -90,6 +95,11 @@ module _ (m : Machine) (e : soundMachine m ≡ true) where
       let low : codeNumber c < length (m .timings) = omega (arith, code-low c, six) in
       in-range (getD (m .timings) (codeNumber c) None) (every-at (soundTiming (length (m .classes))) (m .timings) (codeNumber c) None (a .0) low)
 
+-- what operation j takes of the machine is what its code does
+at-operation : (m : Machine) (ops : Loop) (j : ℕ) → j < length ops → timing (timingsOf m ops) j ≡ timingOf m (code-of (op ops j))
+unfolding op
+at-operation m ops j h = getD-map (λ o. timingOf m (code-of o)) ops j (move (literal (pos 0))) (record { class = 0; latency = 0; busy = 0 }) h
+
 pub well-formed : (m : Machine) (ops : Loop) → soundMachine m ≡ true → soundLoop ops ≡ true → WellFormed ops (hardware m ops)
 well-formed m ops e s =
     let a = and-parts (between 1 32 (length ops)) (leb (countBy in-memory ops) 16 && soundBelow ops (length ops)) s in
@@ -99,7 +109,25 @@ well-formed m ops e s =
       some = omega (arith, few .0);
       few = few .1;
       named = λ q h. named-operation ops q (op ops q) (sound-at ops (length ops) q below h);
-      latencies = λ j h. timed m e (code-of (op ops j)) .latency;
-      busies = λ j h. timed m e (code-of (op ops j)) .busy;
-      units = λ j h. timed m e (code-of (op ops j)) .units;
+      latencies = λ j h. subst (λ t. (1 ≤ t .latency) × (t .latency ≤ 8)) (sym (at-operation m ops j h)) (timed m e (code-of (op ops j)) .latency);
+      busies = λ j h. subst (λ t. (1 ≤ t .busy) × (t .busy ≤ t .latency)) (sym (at-operation m ops j h)) (timed m e (code-of (op ops j)) .busy);
+      units = λ j h. subst (λ t. (1 ≤ getD (unitsOf m) (t .class) 0) × (getD (unitsOf m) (t .class) 0 ≤ 8)) (sym (at-operation m ops j h)) (timed m e (code-of (op ops j)) .units);
     }
+
+-- the machine is one that the minimum and the search take
+all-timed : (m : Machine) → soundMachine m ≡ true → (ops : Loop) → All (TimingFits (length (unitsOf m))) (timingsOf m ops)
+all-timed m e [] = tt
+all-timed m e (o ∷ ops) =
+    let t = timed m e (code-of o) in
+    (record { class = subst (λ n. timingOf m (code-of o) .class < n) (sym (length-map (m .classes) (λ c. c .count))) (t .known); some = t .busy .0; short = omega (arith, t .busy .1, t .latency .1) }, all-timed m e ops)
+
+all-counted : (cs : List Class) → every counted cs ≡ true → All (λ c. (1 ≤ c) × (c ≤ 8)) (map (λ c. c .count) cs)
+all-counted [] e = tt
+all-counted (c ∷ cs) e = let a = and-parts (counted c) (every counted cs) e in (between-parts 1 8 (c .count) (a .0), all-counted cs (a .1))
+
+pub machine-fits : (m : Machine) (ops : Loop) → soundMachine m ≡ true → MachineFits (timingsOf m ops) (unitsOf m)
+machine-fits m ops e =
+    let a = and-parts (every (soundTiming (length (m .classes))) (m .timings)) _ e in
+    let b = and-parts (every counted (m .classes)) (leb (length (m .classes)) 8 && eqb (length (m .timings)) 6) (a .1) in
+    let few = leb-true (length (m .classes)) 8 (and-parts (leb (length (m .classes)) 8) (eqb (length (m .timings)) 6) (b .1) .0) in
+    record { classes = omega (arith, few, length-map (m .classes) (λ c. c .count)); each = all-timed m e ops; counts = all-counted (m .classes) (b .0) }

@@ -59,7 +59,7 @@ fn is_move(row: Row<'_>) -> bool
 }
 
 // The code of a line that has a form.
-pub fn find_loop_form(row: Row<'_>) -> Option<Code>
+pub(crate) fn find_loop_form(row: Row<'_>) -> Option<Code>
     ensures { λ r. ⌜ r ≡ loopFormIn (shown (row .entry .t0)) (shown (row .entry .t1)) (shown (row .entry .t2)) (shown (row .entry .t3)) (shown (row .entry .t4)) (shown (row .entry .t5)) ⌝ }
 {
     if is_load(row) {

@@ -152,7 +152,7 @@ fn name_for(
 
 impl Action {
     // Loads and stores touch memory.
-    pub fn in_memory(&self) -> bool
+    pub(crate) fn in_memory(&self) -> bool
         ensures { λ r. ⌜ r ≡ touchesMemory (actionSeen (now (self .entry))) ⌝ }
     {
         match self {
@@ -204,7 +204,7 @@ fn form_line(m: &mut Statements, number: usize, code: Code, row: Row<'_>) -> Res
 }
 
 // One line of a loop text.
-pub fn loop_line(m: &mut Statements, line: &[u8], number: usize) -> Result<(), TextFault>
+pub(crate) fn loop_line(m: &mut Statements, line: &[u8], number: usize) -> Result<(), TextFault>
     ensures { λ r. ⌜ told r (allSeen (take (now (m .exit) .count) (now (m .exit) .items))) ≡ lineStep statementRules (allSeen (take (now (m .entry) .count) (now (m .entry) .items))) (record { number = number; bytes = now (line .entry) }) ⌝ }
 {
     if !all_between(line, 32, 126) {

@@ -114,7 +114,7 @@ fn is_free(classes: &[Class], word: &[u8]) -> bool
 }
 
 // A number out of range.
-pub fn out_of_range(t: Option<Token<'_>>) -> TextFault
+pub(crate) fn out_of_range(t: Option<Token<'_>>) -> TextFault
     ensures { λ r. ⌜ r ≡ OutOfRange (orNone (shown (t .entry)) .line) (orNone (shown (t .entry)) .column) ⌝ }
 {
     let part = part_of(t);
@@ -125,7 +125,7 @@ pub fn out_of_range(t: Option<Token<'_>>) -> TextFault
 }
 
 // A name or a code that may not stand here.
-pub fn wrong_name(t: Option<Token<'_>>) -> TextFault
+pub(crate) fn wrong_name(t: Option<Token<'_>>) -> TextFault
     ensures { λ r. ⌜ r ≡ WrongName (orNone (shown (t .entry)) .line) (orNone (shown (t .entry)) .column) ⌝ }
 {
     let part = part_of(t);
@@ -238,7 +238,7 @@ fn all_timed(timings: &[Option<Timing>]) -> bool
 }
 
 // The lines, and the question at the end.
-pub fn machine_lines(m: &mut Entries, text: &[u8]) -> Result<(), TextFault>
+pub(crate) fn machine_lines(m: &mut Entries, text: &[u8]) -> Result<(), TextFault>
     requires { ⌜ length (now text) ≤ 4096 ⌝ }
     ensures { λ r. ⌜ told r (entriesSeen (now (m .exit))) ≡ readLines machineRules (entriesSeen (now (m .entry))) (linesOf (now (text .entry))) ⌝ }
 {

@@ -63,7 +63,7 @@ fn written_of(t: Token<'_>) -> Written
 }
 
 // An operand, unless its number is out of range.
-pub fn use_of(t: Option<Token<'_>>) -> Result<Use, TextFault>
+pub(crate) fn use_of(t: Option<Token<'_>>) -> Result<Use, TextFault>
     requires { ⌜ Fit (orNone (shown t)) ⌝ }
     ensures { λ r. ⌜ answered useSeen r ≡ inRangeOr (anOperand (orNone (shown (t .entry))) ∷ []) (Ok (useOf (orNone (shown (t .entry))))) ⌝ }
 {
@@ -100,7 +100,10 @@ fn number_to(t: Option<Token<'_>>, hi: usize) -> Result<usize, TextFault>
 }
 
 // A stride and an offset, unless one of them is out of range.
-pub fn cell_of(stride: Option<Token<'_>>, offset: Option<Token<'_>>) -> Result<Cell, TextFault>
+pub(crate) fn cell_of(
+    stride: Option<Token<'_>>,
+    offset: Option<Token<'_>>,
+) -> Result<Cell, TextFault>
     requires stride { ⌜ Fit (orNone (shown stride)) ⌝ }
     requires offset { ⌜ Fit (orNone (shown offset)) ⌝ }
     ensures { λ r. ⌜ answered cellSeen r ≡ inRangeOr (aStride (orNone (shown (stride .entry))) ∷ anOffset (orNone (shown (offset .entry))) ∷ []) (Ok (amountOf (orNone (shown (stride .entry)) .bytes), amountOf (orNone (shown (offset .entry)) .bytes))) ⌝ }

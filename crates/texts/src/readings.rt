@@ -1,6 +1,7 @@
 // The two texts, read whole into records by value: a refused text leaves nothing behind.
 ghost use mathlib.Core.Path.{_≡_};
 ghost use Prim.Native.Nat.{_≤_};
+ghost use lib.Dec.{ltb};
 ghost use lib.ListN.{length, take};
 ghost use Rattle.model.specs.Lines.{linesOf};
 ghost use Rattle.model.specs.Questions.{readLines};
@@ -23,12 +24,18 @@ use crate::statement::Written;
 use crate::statements::Statements;
 use reader::lines::line_end;
 
+fn is_too_long(text: &[u8]) -> bool
+    ensures { λ r. ⌜ r ≡ ltb 4096 (length (now (text .entry))) ⌝ }
+{
+    text.len() > 4096
+}
+
 impl Machine {
     // The machine of a text, or the first question that it answers no.
     pub fn read(text: &[u8]) -> Result<Machine, TextFault>
         ensures { λ r. ⌜ answered machineSeen r ≡ readMachine (now (text .entry)) ⌝ }
     {
-        if text.len() > 4096 {
+        if is_too_long(text) {
             return Err(TextFault::TooLong);
         }
         let unnamed = Class {
@@ -69,7 +76,7 @@ impl Statements {
     pub fn read(text: &[u8]) -> Result<Statements, TextFault>
         ensures { λ r. ⌜ answered statementsSeen r ≡ readStatements (now (text .entry)) ⌝ }
     {
-        if text.len() > 4096 {
+        if is_too_long(text) {
             return Err(TextFault::TooLong);
         }
         let unsaid = Statement {

@@ -20,7 +20,7 @@ unit-line-requires c κs =
     let l : Line = record { number = c .args .number; bytes = c .args .line .now } in
     let r = c .row-of-row .result in
     let row = c .row-of-row .ensures in
-    let h : formIn (shown (r .t0)) (shown (r .t1)) (shown (r .t2)) (shown (r .t3)) (shown (r .t4)) (shown (r .t5)) ≡ Some UnitForm = sym (c .in-Some .ensures tt) ∙ ap Some (c .in-Unit .is) in
+    let h : formIn (shown (r .t0)) (shown (r .t1)) (shown (r .t2)) (shown (r .t3)) (shown (r .t4)) (shown (r .t5)) ≡ Some UnitForm = _∙_ {a = formIn (shown (r .t0)) (shown (r .t1)) (shown (r .t2)) (shown (r .t3)) (shown (r .t4)) (shown (r .t5))} {b = Some (c .in-Some .form)} {c = Some UnitForm} (sym {a = Some (c .in-Some .form)} {b = formIn (shown (r .t0)) (shown (r .t1)) (shown (r .t2)) (shown (r .t3)) (shown (r .t4)) (shown (r .t5))} (c .in-Some .ensures tt)) (ap Some (c .in-Unit .is)) in
     let p = unit-parts (shown (r .t0)) (shown (r .t1)) (shown (r .t2)) (shown (r .t3)) (shown (r .t4)) (shown (r .t5)) h in
     record {
       name = name-at l 1 _ (row .t1) (p .0);
@@ -32,7 +32,7 @@ op-line-requires c κs =
     let l : Line = record { number = c .args .number; bytes = c .args .line .now } in
     let r = c .row-of-row .result in
     let row = c .row-of-row .ensures in
-    let h : formIn (shown (r .t0)) (shown (r .t1)) (shown (r .t2)) (shown (r .t3)) (shown (r .t4)) (shown (r .t5)) ≡ Some Op = sym (c .in-Some .ensures tt) ∙ ap Some (c .in-Op .is) in
+    let h : formIn (shown (r .t0)) (shown (r .t1)) (shown (r .t2)) (shown (r .t3)) (shown (r .t4)) (shown (r .t5)) ≡ Some Op = _∙_ {a = formIn (shown (r .t0)) (shown (r .t1)) (shown (r .t2)) (shown (r .t3)) (shown (r .t4)) (shown (r .t5))} {b = Some (c .in-Some .form)} {c = Some Op} (sym {a = Some (c .in-Some .form)} {b = formIn (shown (r .t0)) (shown (r .t1)) (shown (r .t2)) (shown (r .t3)) (shown (r .t4)) (shown (r .t5))} (c .in-Some .ensures tt)) (ap Some (c .in-Op .is)) in
     let p = op-parts (shown (r .t0)) (shown (r .t1)) (shown (r .t2)) (shown (r .t3)) (shown (r .t4)) (shown (r .t5)) h in
     record {
       code = p .0;
@@ -45,7 +45,7 @@ returns-in-Unit c =
     let m = entriesSeen (c .args .m .now) in
     let r = c .row-of-row .result in
     let row = c .row-of-row .ensures in
-    let h : formIn (shown (r .t0)) (shown (r .t1)) (shown (r .t2)) (shown (r .t3)) (shown (r .t4)) (shown (r .t5)) ≡ Some UnitForm = sym (c .in-Some .ensures tt) ∙ ap Some (c .in-Unit .is) in
+    let h : formIn (shown (r .t0)) (shown (r .t1)) (shown (r .t2)) (shown (r .t3)) (shown (r .t4)) (shown (r .t5)) ≡ Some UnitForm = _∙_ {a = formIn (shown (r .t0)) (shown (r .t1)) (shown (r .t2)) (shown (r .t3)) (shown (r .t4)) (shown (r .t5))} {b = Some (c .in-Some .form)} {c = Some UnitForm} (sym {a = Some (c .in-Some .form)} {b = formIn (shown (r .t0)) (shown (r .t1)) (shown (r .t2)) (shown (r .t3)) (shown (r .t4)) (shown (r .t5))} (c .in-Some .ensures tt)) (ap Some (c .in-Unit .is)) in
     let e : every (between 32 126) (l .bytes) ≡ true = sym (c .all-between .ensures) ∙ c .if-not-all-between .left in
     c .unit-line .ensures
     ∙ ap (λ t. unitStep m (l .number) t (orNone (shown (r .t2)))) (tok-same l 1 (shown (r .t1)) (row .t1))
@@ -58,7 +58,7 @@ returns-in-Op c =
     let m = entriesSeen (c .args .m .now) in
     let r = c .row-of-row .result in
     let row = c .row-of-row .ensures in
-    let h : formIn (shown (r .t0)) (shown (r .t1)) (shown (r .t2)) (shown (r .t3)) (shown (r .t4)) (shown (r .t5)) ≡ Some Op = sym (c .in-Some .ensures tt) ∙ ap Some (c .in-Op .is) in
+    let h : formIn (shown (r .t0)) (shown (r .t1)) (shown (r .t2)) (shown (r .t3)) (shown (r .t4)) (shown (r .t5)) ≡ Some Op = _∙_ {a = formIn (shown (r .t0)) (shown (r .t1)) (shown (r .t2)) (shown (r .t3)) (shown (r .t4)) (shown (r .t5))} {b = Some (c .in-Some .form)} {c = Some Op} (sym {a = Some (c .in-Some .form)} {b = formIn (shown (r .t0)) (shown (r .t1)) (shown (r .t2)) (shown (r .t3)) (shown (r .t4)) (shown (r .t5))} (c .in-Some .ensures tt)) (ap Some (c .in-Op .is)) in
     let e : every (between 32 126) (l .bytes) ≡ true = sym (c .all-between .ensures) ∙ c .if-not-all-between .left in
     c .op-line .ensures
     ∙ ap (λ t. opStep m t (orNone (shown (r .t2))) (orNone (shown (r .t3))) (orNone (shown (r .t4)))) (tok-same l 1 (shown (r .t1)) (row .t1))
