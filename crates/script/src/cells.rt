@@ -35,7 +35,7 @@ fn value_of(s: &[u8]) -> usize
 }
 
 // A number of 1 to 9 digits.
-pub fn count_of(s: &[u8]) -> Option<usize>
+pub(crate) fn count_of(s: &[u8]) -> Option<usize>
     ensures { λ r. ⌜ r ≡ countOf (now (s .entry)) ⌝ }
 {
     if is_digits(s, 9) {
@@ -46,7 +46,7 @@ pub fn count_of(s: &[u8]) -> Option<usize>
 }
 
 // The length of a buffer.
-pub fn length_of(s: &[u8]) -> Option<usize>
+pub(crate) fn length_of(s: &[u8]) -> Option<usize>
     ensures { λ r. ⌜ r ≡ lengthOf (now (s .entry)) ⌝ }
 {
     if !is_digits(s, 9) {
@@ -103,7 +103,7 @@ pub fn float_of(s: &[u8]) -> Option<f64>
     None
 }
 
-pub fn is_cell(domain: DomainName, s: &[u8]) -> bool
+pub(crate) fn is_cell(domain: DomainName, s: &[u8]) -> bool
     ensures { λ r. ⌜ r ≡ isCell domain (now (s .entry)) ⌝ }
 {
     match domain {

@@ -24,13 +24,13 @@ pub enum Step {
     Wrong,
 }
 
-pub fn is_hex(b: u8) -> bool
+pub(crate) fn is_hex(b: u8) -> bool
     ensures { λ r. ⌜ r ≡ hexDigit b ⌝ }
 {
     (b >= b'0' && b <= b'9') || (b >= b'a' && b <= b'f')
 }
 
-pub fn hex_value(b: u8) -> u8
+pub(crate) fn hex_value(b: u8) -> u8
     ensures value { λ r. ⌜ r ≡ hexValue b ⌝ }
     ensures small { λ r. ⌜ r < 16 ⌝ }
 {
@@ -100,7 +100,7 @@ fn ended(after: After, n: usize) -> Option<usize>
 }
 
 // The length of the text that a body spells, if its escapes are in order.
-pub fn text_len(body: &[u8]) -> Option<usize>
+pub(crate) fn text_len(body: &[u8]) -> Option<usize>
     ensures { λ r. ⌜ r ≡ lengthIn (unescaped (now (body .entry))) ⌝ }
 {
     let mut after = After::Plain;
