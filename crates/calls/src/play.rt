@@ -33,7 +33,7 @@ fn text_of(heap: Global, body: &[u8]) -> Result<Vec<u8>, AllocError> {
 }
 
 impl Session {
-    pub fn new() -> Session {
+    pub(crate) fn new() -> Session {
         Session {
             scheme: SchemeName::Rotating,
             domain: DomainName::Words,
@@ -73,7 +73,7 @@ impl Session {
     }
 
     // Plays the line of this number, and answers whether the script goes on.
-    pub fn play_line(
+    pub(crate) fn play_line(
         &mut self,
         out: &mut impl Write,
         heap: Global,

@@ -35,11 +35,15 @@ fn print_refusal(
 }
 
 // A call that stands on one that was not made.
-pub fn print_too_early(out: &mut impl Write, call: &str) -> io::Result<()> {
+pub(crate) fn print_too_early(out: &mut impl Write, call: &str) -> io::Result<()> {
     print_refusal(out, call, 10, Layer::Code, None, None)
 }
 
-pub fn print_text_fault(out: &mut impl Write, call: &str, fault: TextFault) -> io::Result<()> {
+pub(crate) fn print_text_fault(
+    out: &mut impl Write,
+    call: &str,
+    fault: TextFault,
+) -> io::Result<()> {
     print_refusal(
         out,
         call,
@@ -50,7 +54,11 @@ pub fn print_text_fault(out: &mut impl Write, call: &str, fault: TextFault) -> i
     )
 }
 
-pub fn print_graph_fault(out: &mut impl Write, call: &str, fault: GraphFault) -> io::Result<()> {
+pub(crate) fn print_graph_fault(
+    out: &mut impl Write,
+    call: &str,
+    fault: GraphFault,
+) -> io::Result<()> {
     print_refusal(
         out,
         call,

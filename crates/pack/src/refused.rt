@@ -99,7 +99,7 @@ fn sentence(fault: TextFault) -> &'static str {
 }
 
 // Tells a refusal; the program then ends with an error.
-pub fn machine_refused(
+pub(crate) fn machine_refused(
     out: &mut impl Write,
     source: Source<'_>,
     fault: TextFault,
@@ -116,7 +116,11 @@ pub fn machine_refused(
     Err(io::Error::other("refused"))
 }
 
-pub fn loop_refused(out: &mut impl Write, source: Source<'_>, fault: GraphFault) -> io::Result<()> {
+pub(crate) fn loop_refused(
+    out: &mut impl Write,
+    source: Source<'_>,
+    fault: GraphFault,
+) -> io::Result<()> {
     let words = match fault {
         GraphFault::Text(text) => sentence(text),
         GraphFault::UnknownName { .. } => "the variable is not defined, or not above this line",

@@ -46,7 +46,7 @@ fn show_timing(
 }
 
 // The classes with their units, and the codes with class, latency and busy time.
-pub fn show_machine(out: &mut impl Write, machine: &Machine) -> io::Result<()> {
+pub(crate) fn show_machine(out: &mut impl Write, machine: &Machine) -> io::Result<()> {
     let entries = machine.entries;
     let classes = &entries.classes[0..entries.count];
     for class in classes {
@@ -153,7 +153,7 @@ fn show_operation(
 }
 
 // The operations in text order, under a heading.
-pub fn show_loop(
+pub(crate) fn show_loop(
     out: &mut impl Write,
     heap: Global,
     body: &Loop,

@@ -1,3 +1,4 @@
+use crate::machines::padded;
 use dependence::loops::Loop;
 use dependence::operation::Operand;
 use dependence::operation::Operation;
@@ -140,10 +141,7 @@ fn counts(rt: LibcRuntime) -> Result<(), Fail> {
 
 #[test]
 fn lengths() -> Result<(), Fail> {
-    let mut text = [b' '; 4097];
-    for (i, b) in b"a = move 1".iter().enumerate() {
-        text[i] = *b;
-    }
+    let text = padded(b"a = move 1");
     answers(&text[0..4096], 0, 0, 0)?;
     answers(&text[0..4097], 1, 0, 0)
 }

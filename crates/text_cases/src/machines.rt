@@ -86,7 +86,7 @@ fn classes_and_codes() -> Result<(), Fail> {
 }
 
 // A text with spaces behind it, up to 4,097 bytes.
-fn padded(text: &[u8]) -> [u8; 4097] {
+pub(crate) fn padded(text: &[u8]) -> [u8; 4097] {
     let mut whole = [b' '; 4097];
     for (i, b) in text.iter().enumerate() {
         if i < 4097 {
