@@ -141,9 +141,11 @@ fn counts(rt: LibcRuntime) -> Result<(), Fail> {
 
 #[test]
 fn lengths() -> Result<(), Fail> {
-    let text = padded(b"a = move 1");
+    let padded = padded(b"a = move 1");
+    let text: &[u8] = &padded;
+    check(text.len() == 4097)?;
     answers(&text[0..4096], 0, 0, 0)?;
-    answers(&text[0..4097], 1, 0, 0)
+    answers(text, 1, 0, 0)
 }
 
 // a = load 1 0, s = add s@1 a, store s 1 64
