@@ -1,5 +1,6 @@
 // The edges of a loop on a machine, listed into room that is reserved once.
 mod list;
 mod memory;
+mod push;
 
 pub use list::Edges;
