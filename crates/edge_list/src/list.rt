@@ -5,6 +5,6 @@ use model::Edge;
 
 #[derive(Drop)]
 pub struct Edges {
-    list: Vec<Edge>,
+    pub(crate) list: Vec<Edge>,
     ghost room: { 304 ≤ vec-cap list },
 }

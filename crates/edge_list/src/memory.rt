@@ -51,7 +51,11 @@ fn cells_meet(a: Cell, b: Cell) -> Meeting
         return EACH_WAY;
     }
     if a.stride == 0 {
-        return if a.offset == b.offset { EACH_WAY } else { APART };
+        return if a.offset == b.offset {
+            EACH_WAY
+        } else {
+            APART
+        };
     }
     if b.offset <= a.offset {
         return Meeting {

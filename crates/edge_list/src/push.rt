@@ -45,7 +45,13 @@ fn push_operand(list: &mut Vec<Edge>, machine: &Machine, l: &Loop, reader: usize
     }
 }
 
-pub(crate) fn push_operands(list: &mut Vec<Edge>, machine: &Machine, l: &Loop, reader: usize, operation: Operation)
+pub(crate) fn push_operands(
+    list: &mut Vec<Edge>,
+    machine: &Machine,
+    l: &Loop,
+    reader: usize,
+    operation: Operation,
+)
     requires { ⌜ RoomFor (operand-edges (hardwareOf (now machine) (now l)) reader (operands (operationSeen operation))) (now list) ⌝ }
     ensures { λ _. ⌜ Appended (now (list .entry)) (now (list .exit)) (operand-edges (hardwareOf (now (machine .entry)) (now (l .entry))) reader (operands (operationSeen operation))) ⌝ }
 {
