@@ -1,0 +1,3 @@
+pub mod Meeting
+pub mod Pieces
+pub mod Few
