@@ -26,3 +26,6 @@ pub mod Files
 pub mod Pipelining
 pub mod WorkedRun
 pub mod WorkedFaults
+pub mod Search
+pub mod Plan
+pub mod SearchLaws
