@@ -4,3 +4,7 @@ pub mod Edges
 pub mod Bounds
 pub mod Sound
 pub mod Plan
+pub mod Ties
+pub mod Crowds
+pub mod Weights
+pub mod Steps
