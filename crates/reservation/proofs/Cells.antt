@@ -17,7 +17,8 @@ use Rattle.std.proofs.shelf.Tests.{cases-eq, cases-lt, eq-eqb, ne-eqb, lt-ltb, 
 use Rattle.graph_laws.proofs.Total.{total-longer}
 use Rattle.model.specs.Schedule.{uses}
 use Rattle.model.specs.Search.{some-below}
-use Rattle.reservation.specs.Cells.{cell, Added, Within, Room, Has, over, over-in, bookable}
+use Rattle.reservation.specs.Cells.{cell, Within, bookable}
+use Rattle.search_laws.specs.Counts.{Added, Room, Has, over, over-in}
 
 abbrev hit : ℕ → ℕ → ℕ → ℕ → ℕ
 hit k t r b = cond (eqb ((t + b) % k) r) 1 0

@@ -5,7 +5,8 @@ use mathlib.Core.Bool.{Bool, true, false, not, _&&_}
 use mathlib.Core.List.{List}
 use lib.ListN.{length, getD}
 use Rattle.model.specs.declared.Timing.{Timing}
-use Rattle.reservation.specs.Cells.{cell, Added, Has, over-in, bookable}
+use Rattle.reservation.specs.Cells.{cell, bookable}
+use Rattle.search_laws.specs.Counts.{Added, Has, over-in}
 use Rattle.reservation.specs.declared.table.ReservationTable.{ReservationTable}
 
 -- the uses in a row of a class, and the units of a class

@@ -2,7 +2,8 @@
 ghost use mathlib.Core.Path.{_≡_};
 ghost use Prim.Native.Nat.{ℕ, _+_, _*_, _≤_, _<_};
 ghost use Rattle.model.specs.Schedule.{uses};
-ghost use Rattle.reservation.specs.Cells.{cell, Added};
+ghost use Rattle.reservation.specs.Cells.{cell};
+ghost use Rattle.search_laws.specs.Counts.{Added};
 use crate::times::stage_row;
 
 // 256 rows for each of eight classes.

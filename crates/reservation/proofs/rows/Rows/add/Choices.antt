@@ -1,4 +1,5 @@
-use Rattle.reservation.specs.Cells.{cell, Added}
+use Rattle.reservation.specs.Cells.{cell}
+use Rattle.search_laws.specs.Counts.{Added}
 use Rattle.reservation.proofs.rows.Rows.add.Given as given
 
 abbrev pub Inv-loop-b : given.InvT-loop-b

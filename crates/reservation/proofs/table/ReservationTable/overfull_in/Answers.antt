@@ -1,5 +1,5 @@
 use mathlib.Core.Path.{sym, ap, _∙_}
-use Rattle.reservation.specs.Cells.{over}
+use Rattle.search_laws.specs.Counts.{over}
 use Rattle.reservation.specs.Views.{count, units-of}
 use Rattle.reservation.proofs.Cells.{some-more, some-found}
 use Rattle.reservation.proofs.table.ReservationTable.overfull_in.Needs as need

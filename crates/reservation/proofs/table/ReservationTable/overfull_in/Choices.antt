@@ -1,6 +1,6 @@
 use mathlib.Core.Path.{_≡_}
 use mathlib.Core.Bool.{false}
-use Rattle.reservation.specs.Cells.{over-in}
+use Rattle.search_laws.specs.Counts.{over-in}
 use Rattle.reservation.specs.Views.{count, units-of}
 use Rattle.reservation.proofs.table.ReservationTable.overfull_in.Given as given
 

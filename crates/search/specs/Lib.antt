@@ -1,0 +1,3 @@
+pub mod Views
+pub mod Boards
+pub mod Weighed
