@@ -15,14 +15,15 @@ use Rattle.std.proofs.shelf.Tests.{eq-eqb, ne-eqb, and-from}
 use Rattle.model.specs.declared.Timing.{Timing}
 use Rattle.model.specs.Limits.{timing, hardware}
 use Rattle.model.specs.declared.Edge.{Edge}
-use Rattle.model.specs.Search.{Times, without, first, fits, crowded, early, torn}
+use Rattle.model.specs.Search.{Times, without, first, fits, crowded, early, torn, fallback, slot}
 use Rattle.search_laws.specs.Counts.{Added, Has, Room, Held, Less, Put, Tied}
 use Rattle.search_laws.specs.Bounded.{Roomy}
 use Rattle.search_laws.specs.Weights.{weight, early-by, asked, unmet, torn-by}
 use Rattle.search_laws.proofs.Weights.{early-weights, torn-weights}
 use Rattle.search_laws.proofs.Ties.{tied-less, tied-put, has-uses}
 use Rattle.search_laws.proofs.Crowds.{fits-is, there, room-then}
-use Rattle.search_laws.proofs.Steps.{first-same}
+use Rattle.search_laws.proofs.Steps.{first-same, slot-is, slot-fits}
+use Rattle.search_laws.proofs.Plan.{short-edges}
 use Rattle.reservation.specs.Cells.{bookable}
 use Rattle.reservation.specs.Times.{times-of, Replaced}
 use Rattle.reservation.specs.Views.{count, units-of, fits-of, crowds-of, Alike, Booked, Released}
@@ -31,7 +32,8 @@ use Rattle.reservation.specs.declared.time_table.TimeTable.{TimeTable}
 use Rattle.search.specs.Views.{weights-of, Fitting}
 use Rattle.search.specs.Weighed.{Weighed}
 use Rattle.search.specs.declared.weight_table.Weights.{Weights}
-use Rattle.search.specs.Boards.{hw-of}
+use Rattle.search.specs.Boards.{hw-of, placed-on, Sound, state-of, LowIn}
+use Rattle.search.specs.declared.state.Progress.{Progress}
 use Rattle.search.proofs.Cells.{replaced-less, replaced-put, is-bookable, released-there, booked-there}
 
 pub tied-alike : (us : List Timing) (t t′ : ReservationTable) → Alike t t′ → (time : Times) (counts : ℕ → ℕ → ℕ) →
@@ -127,3 +129,18 @@ room-now us tb tb′ j t fitting below roomy time time′ tied same tied′ gone
     subst₂ (λ u k. Room k (timing us j .class) t (timing us j .busy) (count tb′) (λ x. getD u x 0)) (sym (same .units)) (sym (same .interval))
     (room-then (hw-of us tb) (length us) (tb .interval) time (count tb) (tb .positive) (tb .small) tied j t (fitting .class j below) time′ (count tb′) below roomy (tb .held)
     (tied-alike us tb′ tb (alike-back tb tb′ same) time′ (count tb′) tied′) (held-alike us tb tb′ same) gone none)
+
+-- the time that an operation takes
+module _ (es : List Edge) (us : List Timing) (w : Weights) (s : Progress) (fitting : Fitting us) (weighed : Weighed es (length us) (s .board .table .interval) w) (sound : Sound us (s .board))
+    (j : ℕ) (below : j < length us) (from : ℕ) (from-is : from ≡ early-by (weights-of w) (placed-on (s .board)) j (length us)) (from-small : from < 65600)
+    (last : Option ℕ) (last-is : last ≡ times-of (s .last) j)
+    (t : ℕ) (t-is : t ≡ valueOr (first (fits-of (s .board .table) (timing us j)) from (s .board .table .interval)) (fallback last from)) where
+  pub slot-of : t ≡ slot es (hw-of us (s .board .table)) (length us) (s .board .table .interval) (state-of s) j
+  slot-of =
+      t-is ∙ (ap (λ l. valueOr (first (fits-of (s .board .table) (timing us j)) from (s .board .table .interval)) (fallback l from)) last-is ∙
+      slot-is es (hw-of us (s .board .table)) (length us) (s .board .table .interval) (state-of s) j from _
+      (from-is ∙ early-is es (length us) (s .board .table .interval) w weighed (fitting .few) j below (placed-on (s .board)))
+      (window-is us (s .board .table) (placed-on (s .board)) fitting sound j below from from-small))
+
+  pub slot-small : LowIn s → s .taken < 192 → t < 65536
+  slot-small low steps = slot-fits es (hw-of us (s .board .table)) (length us) (s .board .table .interval) (state-of s) j t (short-edges (length us) es (weighed .fit)) (weighed .small) steps low slot-of

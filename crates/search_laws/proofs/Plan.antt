@@ -39,7 +39,7 @@ use Rattle.pipelining.proofs.Theorem.{lives-last}
 use Rattle.search_laws.specs.Bounded.{Short, Roomy, Sound}
 use Rattle.search_laws.proofs.Sound.{search-sound, in-sixteen}
 
-short-edges : (n : ℕ) (es : List Edge) → All (EdgeFits n) es → Short es
+pub short-edges : (n : ℕ) (es : List Edge) → All (EdgeFits n) es → Short es
 short-edges n es h = all-weaker _ _ (λ e f. f .delay) es h
 
 part-sum : (f : ℕ → ℕ) (n j : ℕ) → j < n → f j ≤ total f n

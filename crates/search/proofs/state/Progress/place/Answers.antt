@@ -29,18 +29,18 @@ place-requires c κs =
 pub returns : need.returns
 returns c =
     let us = c .args .timings .now in
-    let es = c .args .edges .now in
     let b = c .args .self .now .board in
     let b′ = c .remove-marked .last .self in
     let k = b .table .interval in
     let few = c .pre .fitting .few in
     let gone = unmarked-is (c .crowded-crowd .result) (length us) (placed-on b) (placed-on b′) (crowded (hw-of us (b .table)) k (placed-on b) (length us) (c .args .op) (c .args .time))
     (c .remove-marked .ensures .time) (c .crowded-crowd .ensures) (c .pre .sound .beyond) in
-    let torn′ = unmarked-is (c .torn-gone .result) (length us) (placed-on (c .place .last .self)) (placed-on (c .remove-marked-2 .last .self)) (torn k (placed-on (c .place .last .self)) (c .args .op) es)
-    (c .remove-marked-2 .ensures .time) (λ q h. c .torn-gone .ensures q h ∙ torn-is es (length us) k (c .args .weights .now) (c .pre .weighed) few (c .args .op) (c .pre .inside) (placed-on (c .place .last .self)) q h) (c .place .ensures .sound .beyond) in
+    let after = placed-on (c .place .last .self) in
     record {
-      state = placed-is es (hw-of us (b .table)) (length us) k (c .args .op) (c .args .time) (placed-on b) (placed-on b′) (placed-on (c .place .last .self)) (placed-on (c .remove-marked-2 .last .self))
-          (times-of (c .args .self .now .last)) (times-of (c .put .last .self)) _ _ gone (c .place .ensures .time) torn′
+      state = λ es weighed. placed-is es (hw-of us (b .table)) (length us) k (c .args .op) (c .args .time) (placed-on b) (placed-on b′) after (placed-on (c .remove-marked-2 .last .self))
+          (times-of (c .args .self .now .last)) (times-of (c .put .last .self)) _ _ gone (c .place .ensures .time)
+          (unmarked-is (c .torn-gone .result) (length us) after (placed-on (c .remove-marked-2 .last .self)) (torn k after (c .args .op) es)
+          (c .remove-marked-2 .ensures .time) (λ q h. c .torn-gone .ensures q h ∙ torn-is es (length us) k (c .args .weights .now) weighed few (c .args .op) (c .pre .inside) after q h) (c .place .ensures .sound .beyond))
           (replaced-put (c .args .op) (c .args .time) (c .args .self .now .last) (c .put .last .self) (omega (arith, c .pre .inside)) (c .put .ensures)) refl;
       sound = c .remove-marked-2 .ensures .sound;
       alike = alike-both _ _ _ (alike-both _ _ _ (c .remove-marked .ensures .alike) (c .place .ensures .alike)) (c .remove-marked-2 .ensures .alike);
