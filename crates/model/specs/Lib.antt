@@ -27,3 +27,6 @@ pub mod Pipelining
 pub mod WorkedRun
 pub mod WorkedFaults
 pub mod Faults
+pub mod Search
+pub mod Plan
+pub mod SearchLaws
