@@ -1,0 +1,5 @@
+// The driving machine, and the plain loop to which its runs are held.
+pub mod asking;
+pub mod slot;
+pub mod slots;
+pub mod units;
