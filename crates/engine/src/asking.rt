@@ -4,17 +4,21 @@ ghost use mathlib.Core.Bool.{_&&_, not, _||_};
 ghost use Prim.Native.Nat.{ℕ, _+_, _-_, _^_, _≤_, _<_};
 ghost use lib.Dec.{leb, ltb};
 ghost use lib.ListN.{length, getD};
+ghost use Rattle.std.specs.declared.option.Option.the-variants.{None};
+ghost use Rattle.model.specs.declared.Status.{Status as OneStatus};
 ghost use Rattle.std.specs.Options.{Cases as BySome};
 ghost use Rattle.model.specs.declared.Status.the-variants.{Never};
 ghost use Rattle.model.specs.Loop.{operands, makes as makes-value, in-memory, stride-of, offset-of, cell as cell-of};
 ghost use Rattle.model.specs.Driving.{all-of, awaits};
-ghost use Rattle.engine_laws.specs.Tracks.{readable-by, verdict-by};
+ghost use Rattle.engine_laws.specs.Parts.{status-after, taken-after};
+ghost use Rattle.engine_laws.specs.Tracks.{Tracks, readable-by, verdict-by};
 ghost use Rattle.engine.specs.Slots.{source-of, operation-of, slot-of, SourceWithin, OperationWithin, SlotWithin};
 use crate::slot::Bounds;
 use crate::slot::Row;
 use crate::slot::Slot;
 use crate::units::PLACES;
 use crate::units::is_unit_free;
+use crate::units::take_unit;
 use code::issue::Operation;
 use code::issue::Source;
 use model::Question;
@@ -125,5 +129,29 @@ pub fn ask(
     if makes(slot.operation) && does_await(status, slot.target) {
         return Some(Question::ResultFree);
     }
+    None
+}
+
+// Asks about a slot; where nothing is answered no, it takes its unit and its result register awaits a write.
+pub fn admit(
+    units: usize,
+    bounds: Bounds,
+    row: Row,
+    status: &mut [Status; REGISTERS],
+    taken: &mut [usize; PLACES],
+    slot: Slot,
+) -> Option<Question>
+    requires { ⌜ SlotWithin 256 slot ⌝ ∗ ⌜ row .cycle + 8 < 2 ^ 64 ⌝ }
+    ensures verdict { λ r. ⌜ r ≡ verdict-by (now (status .entry)) (now (taken .entry)) (λ _. units) (bounds .trips) (bounds .cells) (row .pass) (row .cycle) (slot-of slot) ⌝ }
+    ensures tracked { λ r. ⌜ ((s : ℕ → OneStatus) (t : ℕ → ℕ → ℕ) → Tracks (row .cycle) (now (status .entry)) (now (taken .entry)) s t → r ≡ None →
+        Tracks (row .cycle) (now (status .exit)) (now (taken .exit)) (status-after (slot-of slot) s) (taken-after (row .cycle) (slot-of slot) t)) ⌝ }
+{
+    if let Some(question) = ask(units, bounds, row, status, taken, slot) {
+        return Some(question);
+    }
+    if makes(slot.operation) {
+        status[slot.target] = Status::Waits;
+    }
+    take_unit(taken, row.cycle, slot.timing.class, slot.timing.busy);
     None
 }

@@ -1,5 +1,6 @@
 // A slot as it issues: the registers are resolved, and its timing is known.
 use code::issue::Operation;
+use model::Question;
 use model::Timing;
 
 #[derive(Clone, Copy)]
@@ -24,4 +25,18 @@ pub struct Row {
 pub struct Bounds {
     pub trips: usize,
     pub cells: usize,
+}
+
+// A no to a question about a slot, by its number in the row.
+#[derive(Clone, Copy)]
+pub struct Denial {
+    pub question: Question,
+    pub slot: usize,
+}
+
+// The timing of each code, by its number, and the units of each class.
+#[derive(Clone, Copy)]
+pub struct Hardware {
+    pub timings: [Timing; 6],
+    pub units: [usize; 8],
 }
