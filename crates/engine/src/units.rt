@@ -1,6 +1,6 @@
 // The units that are taken in this cycle and the seven behind it, by cycle modulo 8 and class.
 ghost use mathlib.Core.Path.{_≡_};
-ghost use Prim.Native.Nat.{ℕ, _+_, _-_, _^_, _≤_, _<_};
+ghost use Prim.Native.Nat.{ℕ, _+_, _-_, _%_, _^_, _≤_, _<_};
 ghost use lib.ListN.{getD};
 ghost use Rattle.engine_laws.specs.Tracks.{unit-place, unit-free-by, use-for};
 
@@ -39,5 +39,16 @@ pub fn take_unit(taken: &mut [usize; PLACES], cycle: usize, class: usize, busy: 
 {
     for b in 0..busy {
         taken[(cycle + b) % AHEAD * CLASSES + class] += 1;
+    }
+}
+
+// Forgets a cycle: its places now stand for the one eight cycles later.
+pub fn clear_units(taken: &mut [usize; PLACES], cycle: usize)
+    ensures cleared { λ _. ⌜ ((u y : ℕ) → u < 8 → y % 8 ≡ cycle % 8 → getD (now (taken .exit)) (unit-place u y) 0 ≡ 0) ⌝ }
+    ensures others { λ _. ⌜ ((u y : ℕ) → u < 8 → (y % 8 ≡ cycle % 8 → ⊥) → getD (now (taken .exit)) (unit-place u y) 0 ≡ getD (now (taken .entry)) (unit-place u y) 0) ⌝ }
+{
+    let first = cycle % AHEAD * CLASSES;
+    for class in 0..CLASSES {
+        taken[first + class] = 0;
     }
 }

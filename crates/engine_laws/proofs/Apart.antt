@@ -1,5 +1,5 @@
 -- A row's issue is that of its parts.
-use Prim.Native.Nat.{ℕ, zero, suc, _+_, _-_, _≤_, _<_}
+use Prim.Native.Nat.{ℕ, zero, suc, _+_, _-_, _/_, _≤_, _<_}
 use mathlib.Core.Path.{_≡_, refl, sym, ap, _∙_}
 use mathlib.Core.List.{List, [], _∷_, map}
 use native.Mathlib.Omega.{arith}
@@ -7,7 +7,7 @@ use native.Mathlib.Numerals.{add-one}
 use Rattle.std.specs.declared.option.Option.{Option}
 use Rattle.std.specs.declared.option.Option.the-variants.{Some, None}
 use Rattle.model.specs.Domains.{Domain}
-use Rattle.model.specs.Issues.{Slot}
+use Rattle.model.specs.Issues.{Slot, iteration-in}
 use Rattle.model.specs.Driving.{Machine, issue, reserved, issue-all}
 use Rattle.model.specs.Codes.{gathered, with-some}
 use Rattle.engine_laws.specs.Parts.{statuses, takens, waitings, memories, turned}
@@ -15,15 +15,15 @@ use Rattle.engine_laws.specs.Parts.{statuses, takens, waitings, memories, turn
 module _ {V : Type 0} (dom : Domain V) (k c : ℕ) (seen : Machine V) where
   abbrev pub in-parts : List Slot → Machine V → Machine V
   in-parts slots m = record {
-    memory = memories dom k c seen slots (m .memory);
+    memory = memories dom (seen .values) (seen .memory) (c / k) slots (m .memory);
     values = m .values;
-    waiting = waitings dom k c seen slots (m .waiting);
+    waiting = waitings dom (seen .values) (seen .memory) (c / k) c slots (m .waiting);
     status = statuses slots (m .status);
     taken = takens c slots (m .taken);
   }
 
   pub issued-in-parts : (slots : List Slot) (m : Machine V) → issue-all dom k c slots seen m ≡ in-parts slots m
-  unfolding issue-all memories waitings statuses takens issue reserved
+  unfolding issue-all memories waitings statuses takens issue reserved iteration-in
   issued-in-parts [] m = refl
   issued-in-parts (slot ∷ slots) m = issued-in-parts slots (issue dom k c slot seen m)
 

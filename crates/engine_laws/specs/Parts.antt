@@ -1,5 +1,5 @@
 -- What the slots of a row do to each part of the machine, part by part.
-use Prim.Native.Nat.{ℕ, _+_}
+use Prim.Native.Nat.{ℕ, _+_, _-_}
 use mathlib.Core.List.{List, [], _∷_}
 use mathlib.Core.Bool.{cond}
 use Rattle.std.specs.declared.option.Option.{Option}
@@ -8,9 +8,9 @@ use Rattle.model.specs.declared.Status.{Status}
 use Rattle.model.specs.declared.Status.the-variants.{Waits}
 use Rattle.model.specs.Loop.{makes}
 use Rattle.model.specs.Domains.{Domain}
-use Rattle.model.specs.Plain.{written}
+use Rattle.model.specs.Plain.{written, evaluate}
 use Rattle.model.specs.Issues.{Slot}
-use Rattle.model.specs.Driving.{Waiting, Machine, put, use-of, slot-iteration, slot-result}
+use Rattle.model.specs.Driving.{Waiting, put, use-of, source-value}
 
 -- one slot
 abbrev pub status-after : Slot → (ℕ → Status) → ℕ → Status
@@ -28,17 +28,21 @@ unfoldable pub takens : ℕ → List Slot → (ℕ → ℕ → ℕ) → ℕ → 
 takens c [] taken = taken
 takens c (slot ∷ slots) taken = takens c slots (taken-after c slot taken)
 
-module _ {V : Type 0} (dom : Domain V) (k c : ℕ) (seen : Machine V) where
-  abbrev pub waiting-after : Slot → (ℕ → Waiting V) → ℕ → Waiting V
-  waiting-after slot waiting =
-      cond (makes (slot .operation)) (put (slot .target) (record { due = c + slot .latency; value = slot-result dom k c slot seen }) waiting) waiting
+-- In cycle c of pass p, where registers and memory hold this.
+module _ {V : Type 0} (dom : Domain V) (values : ℕ → V) (cells : List V) (p : ℕ) where
+  abbrev pub slot-value : Slot → V
+  slot-value slot = evaluate dom (source-value dom values) (slot .operation) (p - slot .stage) cells
+
+  abbrev pub waiting-after : ℕ → Slot → (ℕ → Waiting V) → ℕ → Waiting V
+  waiting-after c slot waiting =
+      cond (makes (slot .operation)) (put (slot .target) (record { due = c + slot .latency; value = slot-value slot }) waiting) waiting
 
   abbrev pub memory-after : Slot → List V → List V
-  memory-after slot memory = written (slot .operation) (slot-iteration k c slot) (slot-result dom k c slot seen) memory
+  memory-after slot memory = written (slot .operation) (p - slot .stage) (slot-value slot) memory
 
-  unfoldable pub waitings : List Slot → (ℕ → Waiting V) → ℕ → Waiting V
-  waitings [] waiting = waiting
-  waitings (slot ∷ slots) waiting = waitings slots (waiting-after slot waiting)
+  unfoldable pub waitings : ℕ → List Slot → (ℕ → Waiting V) → ℕ → Waiting V
+  waitings c [] waiting = waiting
+  waitings c (slot ∷ slots) waiting = waitings c slots (waiting-after c slot waiting)
 
   unfoldable pub memories : List Slot → List V → List V
   memories [] memory = memory
