@@ -21,6 +21,7 @@ pub mod SchemeLaws
 pub mod Plain
 pub mod Issues
 pub mod Driving
+pub mod Codes
 pub mod ScheduleLives
 pub mod Files
 pub mod Pipelining
