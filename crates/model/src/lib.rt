@@ -68,6 +68,14 @@ pub enum Question {
     ResultFree,
 }
 
+// The parts of a listing.
+#[derive(Clone, Copy, PartialEq, Eq, Debug)]
+pub enum Part {
+    Front,
+    Kernel,
+    Rest,
+}
+
 // The layer in which a call is refused.
 #[derive(Clone, Copy, PartialEq, Eq, Debug)]
 pub enum Layer {
