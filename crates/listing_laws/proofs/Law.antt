@@ -11,11 +11,12 @@ use lib.ListN.{length, getD}
 use Rattle.std.proofs.shelf.Tests.{cases-lt, cases-eq, and-from, lt-ltb, le-ltb}
 use Rattle.model.specs.declared.Part.{Part}
 use Rattle.model.specs.declared.Part.the-variants.{Front, Kernel, Rest}
+use Rattle.model.specs.declared.Parts.{Parts}
 use Rattle.model.specs.Loop.{Loop, Hardware, WellFormed}
 use Rattle.model.specs.Schedule.{Schedule, stage, stages, FewStages}
 use Rattle.model.specs.Issues.{passes}
 use Rattle.model.specs.Codes.{form-of, slot-in}
-use Rattle.model.specs.Listing.{Slot, said, Parts, parts-of, head-of, passes-in, passes-run, first-pass, written-pass, row-of, rows-of-pass, rows-of-part, rows-of, Listing, listing, written-row, code-of-listing}
+use Rattle.model.specs.Listing.{Slot, said, parts-of, head-of, passes-in, passes-run, first-pass, written-pass, row-of, rows-of-pass, rows-of-part, rows-of, Listing, listing, written-row, code-of-listing}
 use Rattle.model.specs.ListingLaws.{ListingMeans}
 use Rattle.pipelining.proofs.Length.{stage-below}
 use Rattle.listing_laws.proofs.Each.{at-ones, length-ones}

@@ -10,11 +10,12 @@ use lib.ListN.{length, getD}
 use lib.Dec.{leb, ltb}
 use Rattle.std.proofs.shelf.Lists.{getD-append-left, getD-append-right, length-append}
 use Rattle.std.proofs.shelf.Tests.{cases-bool, cases-eq, cases-lt, leb-true, leb-false, le-leb, lt-leb, lt-ltb, le-ltb, eq-eqb, ne-eqb}
+use Rattle.model.specs.declared.Parts.{Parts}
 use Rattle.model.specs.Loop.{Loop}
 use Rattle.model.specs.Edges.{each}
 use Rattle.model.specs.Schedule.{Schedule, stages}
 use Rattle.model.specs.Issues.{passes}
-use Rattle.model.specs.Listing.{head-of, Parts, parts-of, all-front, with-kernel, passes-run, passes-written}
+use Rattle.model.specs.Listing.{head-of, parts-of, all-front, with-kernel, passes-run, passes-written}
 use Rattle.listing_laws.proofs.Each.{length-table, at-table}
 
 -- Three tables one after another.

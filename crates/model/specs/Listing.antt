@@ -13,6 +13,7 @@ use Rattle.model.specs.declared.Code.the-variants.{Load, Store, Add, Sub, Mul,
 use Rattle.model.specs.declared.Operator.the-variants.{Plus, Minus, Times}
 use Rattle.model.specs.declared.Part.{Part}
 use Rattle.model.specs.declared.Part.the-variants.{Front, Kernel, Rest}
+pub use Rattle.model.specs.declared.Parts.{Parts}
 use Rattle.model.specs.Loop.{Loop, Operand, literal, variable, Operation, load, store, binary, move, op, on-operands, makes}
 use Rattle.model.specs.Edges.{each}
 use Rattle.model.specs.Schedule.{Schedule, stage, row, stages}
@@ -112,13 +113,6 @@ farthest ops (suc n) = max (farthest ops n) (greatest distance (op ops n))
 -- The stages less one, and D: behind so many passes every stage has begun, and every operand is of an iteration from 0 on.
 unfoldable pub head-of : Loop → Schedule → ℕ
 head-of ops w = stages w (length ops) - 1 + farthest ops (length ops)
-
--- The passes that are written in each part, and how often the kernel repeats.
-pub record Parts : Type 0 where
-  pub front : ℕ
-  pub kernel : ℕ
-  pub repeats : ℕ
-  pub rest : ℕ
 
 -- At most `head` trips are all front.
 abbrev pub all-front : ℕ → Parts

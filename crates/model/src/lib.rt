@@ -76,6 +76,15 @@ pub enum Part {
     Rest,
 }
 
+// The passes that are written in each part, and how often the kernel repeats.
+#[derive(Clone, Copy, PartialEq, Eq, Debug)]
+pub struct Parts {
+    pub front: usize,
+    pub kernel: usize,
+    pub repeats: usize,
+    pub rest: usize,
+}
+
 // The layer in which a call is refused.
 #[derive(Clone, Copy, PartialEq, Eq, Debug)]
 pub enum Layer {
