@@ -144,5 +144,5 @@ module _ (b : Body) (name : ℕ → ℕ → ℕ → ℕ) where
       let staged = st ∙ b .staged j low in
       let rowed = r ∙ b .rowed j low in
       let whole : o ≡ operation-in (loop-of b) (schedule-of b) name (b .turns) p j =
-          e ∙ ap₂ (λ x y. on-operands (operand-in (loop-of b) (schedule-of b) name (b .turns) p x) y) staged (seen-at (b .source) j d h) in
+      e ∙ ap₂ (λ x y. on-operands (operand-in (loop-of b) (schedule-of b) name (b .turns) p x) y) staged (seen-at (b .source) j d h) in
       is ∙ rw (rowed, staged, res, whole)

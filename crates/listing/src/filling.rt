@@ -51,7 +51,15 @@ impl Listing {
 
     // Writes the listing of a loop in a schedule, with the names and the turns of a register scheme, for so many trips.
     // What it does not write leaves the listing as it was.
-    pub fn write<S: Scheme>(&mut self, source: &Loop, times: &[u16; 32], interval: usize, scheme: &S, turns: usize, trips: usize) -> Result<(), Unwritable>
+    pub fn write<S: Scheme>(
+        &mut self,
+        source: &Loop,
+        times: &[u16; 32],
+        interval: usize,
+        scheme: &S,
+        turns: usize,
+        trips: usize,
+    ) -> Result<(), Unwritable>
         ensures written { λ r. ⌜ Answered (now (self .entry)) (now (self .exit)) (loopSeen (now (source .entry))) (schedule interval (now (times .entry))) (meaning (now (scheme .entry)) .name) turns trips r ⌝ }
         ensures means { λ r. ⌜ Meant (now (self .exit)) (loopSeen (now (source .entry))) (schedule interval (now (times .entry))) (meaning (now (scheme .entry))) turns trips r ⌝ }
     {

@@ -5,6 +5,7 @@ pub mod listing;
 pub mod naming;
 pub mod parts;
 pub mod preparing;
+pub mod reading;
 pub mod refusal;
 pub mod rows;
 pub mod slot;

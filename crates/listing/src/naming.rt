@@ -114,12 +114,22 @@ impl Body {
                 if distance > pass - stage {
                     return Source::Literal(0);
                 }
-                Source::Register(scheme.name(self.variables[definer], pass % self.turns, stage + distance))
+                Source::Register(scheme.name(
+                    self.variables[definer],
+                    pass % self.turns,
+                    stage + distance,
+                ))
             }
         }
     }
 
-    fn in_names<S: Scheme>(&self, scheme: &S, pass: usize, stage: usize, operation: Operation) -> Issued
+    fn in_names<S: Scheme>(
+        &self,
+        scheme: &S,
+        pass: usize,
+        stage: usize,
+        operation: Operation,
+    ) -> Issued
         requires begun { ⌜ stage ≤ pass ⌝ }
         requires known { ⌜ KnownOperands (now self .source .count) operation ⌝ }
         ensures { λ r. ⌜ operation-seen r ≡ on-operands (operand-in (loop-of (now (self .entry))) (schedule-of (now (self .entry))) (meaning (now (scheme .entry)) .name) (now (self .entry) .turns) pass stage) (operationSeen operation) ⌝ }
@@ -144,7 +154,11 @@ impl Body {
         if values_made(self.source.operations[operation]) == 0 {
             return None;
         }
-        Some(scheme.name(self.variables[operation], pass % self.turns, self.stages[operation]))
+        Some(scheme.name(
+            self.variables[operation],
+            pass % self.turns,
+            self.stages[operation],
+        ))
     }
 
     // An operation as it is written.

@@ -79,7 +79,13 @@ fn greatest_distance(operation: Operation) -> usize
 }
 
 impl Body {
-    pub(crate) fn new(source: &Loop, times: &[u16; 32], interval: usize, turns: usize, trips: usize) -> Body
+    pub(crate) fn new(
+        source: &Loop,
+        times: &[u16; 32],
+        interval: usize,
+        turns: usize,
+        trips: usize,
+    ) -> Body
         requires { ⌜ 1 ≤ turns ⌝ }
         ensures source { λ r. ⌜ r .source ≡ now (source .entry) ⌝ }
         ensures times { λ r. ⌜ r .times ≡ now (times .entry) ⌝ }

@@ -51,7 +51,14 @@ impl Rows {
     }
 
     // Writes so many passes of a part, the first of them for pass `first` of the run.
-    pub(crate) fn push_part<S: Scheme>(&mut self, body: &Body, scheme: &S, part: Part, first: usize, passes: usize)
+    pub(crate) fn push_part<S: Scheme>(
+        &mut self,
+        body: &Body,
+        scheme: &S,
+        part: Part,
+        first: usize,
+        passes: usize,
+    )
         requires few { ⌜ first + passes ≤ 65535 ⌝ }
         requires room { ⌜ Room (now self) (each (λ q. rows-of-pass (loop-of (now body)) (schedule-of (now body)) (meaning (now scheme) .name) (now body .turns) (now body .trips) part q (first + q)) passes) ⌝ }
         ensures { λ _. ⌜ Appended (now (self .entry)) (now (self .exit)) (each (λ q. rows-of-pass (loop-of (now (body .entry))) (schedule-of (now (body .entry))) (meaning (now (scheme .entry)) .name) (now (body .entry) .turns) (now (body .entry) .trips) part q (first + q)) passes) ⌝ }

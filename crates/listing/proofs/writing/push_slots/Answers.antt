@@ -14,8 +14,11 @@ slot-requires g c κs =
     let name = g .S·Scheme .meaning (c .args .scheme .now) .name in
     record {
       known = c .loop-operation-test .taken;
-      begun = omega (arith, b .staged j (omega (arith, c .loop-operation-test .taken, b .source .few)),
-          begun b name (c .args .place .part) (c .args .place .written) (c .args .place .pass) (c .args .row) j (sym (c .if-issues .ensures tt)));
+      begun = omega (
+        arith,
+        b .staged j (omega (arith, c .loop-operation-test .taken, b .source .few)),
+        begun b name (c .args .place .part) (c .args .place .written) (c .args .place .pass) (c .args .row) j (sym (c .if-issues .ensures tt)),
+      );
     }
 
 pub push-reserved-requires : need.push-reserved-requires
@@ -43,5 +46,5 @@ returns g c =
     let pl = c .args .place in
     let end : c .loop-operation .operation ≡ c .args .body .now .source .count = omega (arith, c .loop-operation .kept .operation-end, c .loop-operation-test .left) in
     let all = issuing-all (c .args .body .now) (g .S·Scheme .meaning (c .args .scheme .now) .name) (pl .part) (pl .written) (pl .pass) (c .args .row) (c .args .slots .now) (c .loop-operation .slots)
-        (c .loop-operation .operation) end (c .loop-operation .inv) in
+    (c .loop-operation .operation) end (c .loop-operation .inv) in
     record { items = all .items; len = all .len; capacity = all .cap }

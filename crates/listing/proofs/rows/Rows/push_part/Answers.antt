@@ -15,14 +15,14 @@ pub push-pass-requires : need.push-pass-requires
 push-pass-requires g c κs =
     let b = c .args .body .now in
     let f : ℕ → List (List listings.Slot) =
-        λ q. rows-of-pass (loop-of b) (schedule-of b) (g .S·Scheme .meaning (c .args .scheme .now) .name) (b .turns) (b .trips) (c .args .part) q (c .args .first + q) in
+    λ q. rows-of-pass (loop-of b) (schedule-of b) (g .S·Scheme .meaning (c .args .scheme .now) .name) (b .turns) (b .trips) (c .args .part) q (c .args .first + q) in
     room-next f (c .args .self .now) (c .loop-written .self) (c .loop-written .written) (c .args .passes) (c .loop-written-test .taken) (c .pre .room) (c .loop-written .inv)
 
 pub loop-written-again : need.loop-written-again
 loop-written-again g c =
     let b = c .args .body .now in
     let f : ℕ → List (List listings.Slot) =
-        λ q. rows-of-pass (loop-of b) (schedule-of b) (g .S·Scheme .meaning (c .args .scheme .now) .name) (b .turns) (b .trips) (c .args .part) q (c .args .first + q) in
+    λ q. rows-of-pass (loop-of b) (schedule-of b) (g .S·Scheme .meaning (c .args .scheme .now) .name) (b .turns) (b .trips) (c .args .part) q (c .args .first + q) in
     append-next f (c .args .self .now) (c .loop-written .self) (c .push-pass .last .self) (c .loop-written .written) (c .loop-written .inv) (c .push-pass .ensures)
 
 pub returns : need.returns

@@ -19,7 +19,7 @@ push-row-requires g c κs =
     let b = c .args .body .now in
     let pl = c .args .place in
     let f : ℕ → List (List listings.Slot) =
-        λ r. row-of (loop-of b) (schedule-of b) (g .S·Scheme .meaning (c .args .scheme .now) .name) (b .turns) (b .trips) (pl .part) (pl .written) (pl .pass) r ∷ [] in
+    λ r. row-of (loop-of b) (schedule-of b) (g .S·Scheme .meaning (c .args .scheme .now) .name) (b .turns) (b .trips) (pl .part) (pl .written) (pl .pass) r ∷ [] in
     room-next f (c .args .self .now) (c .loop-row .self) (c .loop-row .row) (b .interval) (c .loop-row-test .taken) (c .pre) (c .loop-row .inv)
 
 pub loop-row-again : need.loop-row-again
@@ -27,7 +27,7 @@ loop-row-again g c =
     let b = c .args .body .now in
     let pl = c .args .place in
     let f : ℕ → List (List listings.Slot) =
-        λ r. row-of (loop-of b) (schedule-of b) (g .S·Scheme .meaning (c .args .scheme .now) .name) (b .turns) (b .trips) (pl .part) (pl .written) (pl .pass) r ∷ [] in
+    λ r. row-of (loop-of b) (schedule-of b) (g .S·Scheme .meaning (c .args .scheme .now) .name) (b .turns) (b .trips) (pl .part) (pl .written) (pl .pass) r ∷ [] in
     append-next f (c .args .self .now) (c .loop-row .self) (c .push-row .last .self) (c .loop-row .row) (c .loop-row .inv) (c .push-row .ensures)
 
 pub returns : need.returns

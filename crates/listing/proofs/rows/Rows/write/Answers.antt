@@ -26,5 +26,5 @@ push-part-requires-3 g c κs = record {
 pub returns : need.returns
 returns g c =
     let all = all-kept (c .args .body .now) (g .S·Scheme .meaning (c .args .scheme .now) .name) (c .args .parts) (c .pre .parts) (c .clear .last .self) (c .push-part .last .self)
-        (c .push-part-2 .last .self) (c .push-part-3 .last .self) (c .clear .ensures .keeps) (c .clear .ensures .starts) (c .push-part .ensures) (c .push-part-2 .ensures) (c .push-part-3 .ensures) in
+    (c .push-part-2 .last .self) (c .push-part-3 .last .self) (c .clear .ensures .keeps) (c .clear .ensures .starts) (c .push-part .ensures) (c .push-part-2 .ensures) (c .push-part-3 .ensures) in
     record { keeps = all .0; starts = all .1 }
