@@ -25,6 +25,8 @@ pub mod Codes
 pub mod ScheduleLives
 pub mod Files
 pub mod Pipelining
+pub mod Listing
+pub mod ListingLaws
 pub mod WorkedRun
 pub mod WorkedFaults
 pub mod Faults
