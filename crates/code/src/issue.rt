@@ -1,6 +1,6 @@
 // What issues, in names of registers.
 use model::Operator;
-use texts::statement::Cell;
+use statements::statement::Cell;
 
 // A number that stands in the code, or a register by its name.
 #[derive(Clone, Copy)]

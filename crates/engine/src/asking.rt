@@ -23,7 +23,7 @@ use code::issue::Operation;
 use code::issue::Source;
 use model::Question;
 use model::Status;
-use texts::statement::Cell;
+use statements::statement::Cell;
 
 // The registers whose status is kept.
 pub const REGISTERS: usize = 256;

@@ -11,7 +11,7 @@ use crate::asking::find_cell;
 use code::issue::Operation;
 use code::issue::Source;
 use model::Operator;
-use texts::statement::Cell;
+use statements::statement::Cell;
 use values::domain::Domain;
 
 // What an operand is worth.

@@ -14,7 +14,7 @@ use code::issue::Operation;
 use code::issue::Source;
 use model::Code;
 use model::Operator;
-use texts::statement::Cell;
+use statements::statement::Cell;
 
 fn or_zero(number: Option<usize>) -> usize
     ensures { λ r. ⌜ r ≡ or-zero number ⌝ }

@@ -8,13 +8,13 @@ use refused::loop_refused;
 use refused::machine_refused;
 use show::show_loop;
 use show::show_machine;
+use statements::statements::Statements;
 use std::env;
 use std::fs;
 use std::io;
 use std::io::BufWriter;
 use std::io::Write;
 use texts::machine::Machine;
-use statements::statements::Statements;
 
 // The worked example, which is shown where no file is named.
 const WORKED_MACHINE: &[u8] =

@@ -4,6 +4,9 @@ use dependence::operation::Operand;
 use dependence::operation::Operation;
 use model::Operator;
 use model::Timing;
+use statements::statement::Cell;
+use statements::statement::Statement;
+use statements::statements::Statements;
 use std::alloc::AllocError;
 use std::alloc::Global;
 use std::io;
@@ -11,9 +14,6 @@ use std::io::Write;
 use std::str::from_utf8;
 use texts::entries::Class;
 use texts::machine::Machine;
-use statements::statement::Cell;
-use statements::statement::Statement;
-use statements::statements::Statements;
 
 fn as_text(bytes: &[u8]) -> &str {
     match from_utf8(bytes) {
