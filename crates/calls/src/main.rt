@@ -12,7 +12,7 @@ use std::io::Write;
 // The lines of a script in order, up to the first that is none.
 fn play_all(rt: &LibcRuntime, script: &[u8]) -> io::Result<()> {
     let mut out = BufWriter::new(rt.stdout());
-    let mut session = Session::new();
+    let mut session = Session::new(rt.alloc())?;
     let mut at = 0;
     let mut number: usize = 0;
     while at < script.len() {

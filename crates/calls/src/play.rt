@@ -1,8 +1,10 @@
 // The calls of a script, one after another.
+use crate::print::print_edges;
 use crate::print::print_graph_fault;
 use crate::print::print_text_fault;
 use crate::print::print_too_early;
 use dependence::loops::Loop;
+use edge_list::Edges;
 use script::escapes::unescape;
 use script::line::Call;
 use script::line::DomainName;
@@ -22,6 +24,7 @@ pub struct Session {
     domain: DomainName,
     called: bool,
     machine: Option<Machine>,
+    edges: Edges,
 }
 
 // The text that is written between quotes.
@@ -33,13 +36,15 @@ fn text_of(heap: Global, body: &[u8]) -> Result<Vec<u8>, AllocError> {
 }
 
 impl Session {
-    pub(crate) fn new() -> Session {
-        Session {
+    pub(crate) fn new(heap: Global) -> Result<Session, AllocError> {
+        let edges = Edges::new(heap)?;
+        Ok(Session {
             scheme: SchemeName::Rotating,
             domain: DomainName::Words,
             called: false,
             machine: None,
-        }
+            edges,
+        })
     }
 
     fn play_machine(&mut self, out: &mut impl Write, text: &[u8]) -> io::Result<()> {
@@ -53,11 +58,15 @@ impl Session {
     }
 
     fn play_loop(&mut self, out: &mut impl Write, text: &[u8]) -> io::Result<()> {
-        if self.machine.is_none() {
+        let Some(machine) = self.machine else {
             return print_too_early(out, "loop");
-        }
+        };
         match Loop::read(text) {
-            Ok(_) => writeln!(out, "loop ok"),
+            Ok(body) => {
+                self.edges.build(&machine, &body);
+                writeln!(out, "loop ok")?;
+                print_edges(out, self.edges.as_slice())
+            }
             Err(fault) => print_graph_fault(out, "loop", fault),
         }
     }

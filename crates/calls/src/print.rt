@@ -1,5 +1,6 @@
 // What the answers look like.
 use dependence::fault::GraphFault;
+use model::Edge;
 use model::Layer;
 use std::io;
 use std::io::Write;
@@ -67,4 +68,18 @@ pub(crate) fn print_graph_fault(
         fault.line(),
         fault.column(),
     )
+}
+
+// The edges by their numbers, from 1.
+pub(crate) fn print_edges(out: &mut impl Write, edges: &[Edge]) -> io::Result<()> {
+    let mut number: usize = 0;
+    for edge in edges {
+        number = number.saturating_add(1);
+        let from = edge.from;
+        let to = edge.to;
+        let delay = edge.delay;
+        let distance = edge.distance;
+        writeln!(out, "edge {number} {from} {to} {delay} {distance}")?;
+    }
+    Ok(())
 }

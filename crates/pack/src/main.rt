@@ -1,8 +1,12 @@
 // Reads a machine file and a loop file, and prints what they say.
+mod evidence;
 mod refused;
 mod show;
 
 use dependence::loops::Loop;
+use edge_list::Edges;
+use evidence::show_edges;
+use evidence::show_minimum;
 use refused::Source;
 use refused::loop_refused;
 use refused::machine_refused;
@@ -22,19 +26,23 @@ const WORKED_MACHINE: &[u8] =
 
 const WORKED_LOOP: &[u8] = b"a = load 1 0\ns = add s@1 a\nstore s 1 64\n";
 
-fn pack_machine(rt: &LibcRuntime, source: Source<'_>) -> io::Result<()> {
+fn pack_machine(rt: &LibcRuntime, source: Source<'_>) -> io::Result<Machine> {
     let machine = match Machine::read(source.text) {
         Ok(machine) => machine,
-        Err(fault) => return machine_refused(&mut rt.stderr(), source, fault),
+        Err(fault) => {
+            machine_refused(&mut rt.stderr(), source, fault)?;
+            return Err(io::Error::other("refused"));
+        }
     };
     let mut out = BufWriter::new(rt.stdout());
     let name = source.name;
     writeln!(out, "machine {name}")?;
     show_machine(&mut out, &machine)?;
-    out.flush()
+    out.flush()?;
+    Ok(machine)
 }
 
-fn pack_loop(rt: &LibcRuntime, source: Source<'_>) -> io::Result<()> {
+fn pack_loop(rt: &LibcRuntime, source: Source<'_>, machine: &Machine) -> io::Result<()> {
     let body = match Loop::read(source.text) {
         Ok(body) => body,
         Err(fault) => return loop_refused(&mut rt.stderr(), source, fault),
@@ -42,15 +50,19 @@ fn pack_loop(rt: &LibcRuntime, source: Source<'_>) -> io::Result<()> {
     let mut out = BufWriter::new(rt.stdout());
     let name = source.name;
     writeln!(out, "loop {name}")?;
+    let mut edges = Edges::new(rt.alloc())?;
+    edges.build(machine, &body);
     if let Ok(named) = Statements::read(source.text) {
         show_loop(&mut out, rt.alloc(), &body, &named)?;
+        show_edges(&mut out, &body, edges.as_slice(), &named)?;
     }
+    show_minimum(&mut out, machine, &body, edges.as_slice())?;
     out.flush()
 }
 
 fn pack_both(rt: &LibcRuntime, machine: Source<'_>, body: Source<'_>) -> io::Result<()> {
-    pack_machine(rt, machine)?;
-    pack_loop(rt, body)
+    let machine = pack_machine(rt, machine)?;
+    pack_loop(rt, body, &machine)
 }
 
 // The bytes of a file; one that cannot be read is named.

@@ -15,7 +15,7 @@ use std::str::from_utf8;
 use texts::entries::Class;
 use texts::machine::Machine;
 
-fn as_text(bytes: &[u8]) -> &str {
+pub(crate) fn as_text(bytes: &[u8]) -> &str {
     match from_utf8(bytes) {
         Ok(text) => text,
         Err(_) => "?",
@@ -62,7 +62,7 @@ pub(crate) fn show_machine(out: &mut impl Write, machine: &Machine) -> io::Resul
 }
 
 // The name that operation i defines.
-fn name_at(statements: &[Statement], i: usize) -> &str {
+pub(crate) fn name_at(statements: &[Statement], i: usize) -> &str {
     if i >= statements.len() {
         return "?";
     }
