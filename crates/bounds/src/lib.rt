@@ -15,4 +15,5 @@ pub use answer::Witness;
 pub use bound::minimum;
 pub use height::NoHeights;
 pub use height::heights;
+pub use limits::machine_fits;
 pub use path::Path;

@@ -56,7 +56,7 @@ fn units_fit(units: &[usize]) -> bool
     true
 }
 
-pub(crate) fn machine_fits(timings: &[Timing], units: &[usize]) -> bool
+pub fn machine_fits(timings: &[Timing], units: &[usize]) -> bool
     ensures { λ r. ⌜ Decides r (MachineFits (now (timings .entry)) (now (units .entry))) ⌝ }
 {
     units.len() <= 8 && units_fit(units) && timings_fit(timings, units.len())

@@ -11,8 +11,8 @@ use Rattle.std.specs.declared.option.Option.the-variants.{Some, None}
 use Rattle.model.specs.Questions.{Answer, good, bad, Refusal, each, noOr}
 use Rattle.model.specs.Loop.{operands}
 use Rattle.model.specs.LoopText.{Use, Statement, sameName, definer, knownUse, usesOf}
-use Rattle.texts.specs.declared.statement.Statement.{Statement as OwnStatement}
-use Rattle.texts.specs.Statements.{statementSeen, allSeen}
+use Rattle.statements.specs.declared.statement.Statement.{Statement as OwnStatement}
+use Rattle.statements.specs.Statements.{statementSeen, allSeen}
 use Rattle.dependence.specs.Known.{usesKnown}
 
 module _ (w : List ℕ) (ss : List OwnStatement) (i n : ℕ) (inv : n ≡ i + definer (allSeen (drop i ss)) w) where

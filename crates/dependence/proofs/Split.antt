@@ -18,8 +18,8 @@ use Rattle.model.specs.Faults.{onErr, textFault}
 use Rattle.texts.specs.declared.fault.TextFault.{TextFault}
 use Rattle.texts.specs.declared.fault.TextFault.the-variants.{TooLong, Unprintable, NoForm, OutOfRange, WrongName, ManyClasses, CodeMissing, ManyOperations, NoOperation}
 use Rattle.texts.specs.Faults.{refusal}
-use Rattle.texts.specs.declared.statement.Statement.{Statement as OwnStatement}
-use Rattle.texts.specs.Statements.{statementSeen, allSeen}
+use Rattle.statements.specs.declared.statement.Statement.{Statement as OwnStatement}
+use Rattle.statements.specs.Statements.{statementSeen, allSeen}
 use Rattle.dependence.specs.declared.operation.Operation.{Operation as OwnOperation}
 use Rattle.dependence.specs.declared.fault.GraphFault.{GraphFault}
 use Rattle.dependence.specs.declared.fault.GraphFault.the-variants.{Text, UnknownName}

@@ -1,6 +1,6 @@
 // Operations whose operands name their definers.
 use model::Operator;
-use texts::statement::Cell;
+use statements::statement::Cell;
 
 // A literal, or the value that an operation made so many iterations earlier.
 #[derive(Clone, Copy)]

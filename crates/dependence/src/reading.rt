@@ -12,7 +12,7 @@ ghost use Rattle.model.specs.Loop.{operands, on-operands};
 ghost use Rattle.model.specs.LoopText.{known, sameName, definer as definerOf, resolved, usesOf, loopOf, readLoop};
 ghost use Rattle.model.specs.Faults.{onErr, textFault};
 ghost use Rattle.texts.specs.Seen.{nameSeen};
-ghost use Rattle.texts.specs.Statements.{writtenSeen, useSeen, actionSeen, statementSeen, allSeen};
+ghost use Rattle.statements.specs.Statements.{writtenSeen, useSeen, actionSeen, statementSeen, allSeen};
 ghost use Rattle.dependence.specs.Operations.{operandSeen, operationSeen, operationsSeen};
 ghost use Rattle.dependence.specs.Loops.{loopAnswered};
 ghost use Rattle.dependence.specs.Known.{usesKnown, told};
@@ -22,13 +22,13 @@ use crate::loops::Loop;
 use crate::operation::Operand;
 use crate::operation::Operation;
 use reader::shapes::same;
-use texts::loop_text::defines;
-use texts::loop_text::is_defined;
-use texts::statement::Action;
-use texts::statement::Statement;
-use texts::statement::Use;
-use texts::statement::Written;
-use texts::statements::Statements;
+use statements::loop_text::defines;
+use statements::loop_text::is_defined;
+use statements::statement::Action;
+use statements::statement::Statement;
+use statements::statement::Use;
+use statements::statement::Written;
+use statements::statements::Statements;
 
 fn defines_above(s: &Statement, word: &[u8], line: usize) -> bool
     ensures { λ r. ⌜ r ≡ (sameName (now (word .entry)) (statementSeen (now (s .entry)) .defines) && ltb (statementSeen (now (s .entry)) .line) line) ⌝ }

@@ -1,7 +1,7 @@
 -- The cell of a load or a store.
 use Rattle.std.specs.declared.option.Option.{Option}
 use Rattle.std.specs.declared.option.Option.the-variants.{Some, None}
-use Rattle.texts.specs.declared.statement.Cell.{Cell}
+use Rattle.statements.specs.declared.statement.Cell.{Cell}
 use Rattle.dependence.specs.declared.operation.Operation.{Operation}
 use Rattle.dependence.specs.declared.operation.Operation.the-variants.{Load, Store, Binary, Move}
 

@@ -8,7 +8,7 @@ ghost use Rattle.edge_laws.specs.Meeting.{wholeStrides, toLater, toEarlier, dis
 ghost use Rattle.dependence.specs.Operations.{operationSeen};
 ghost use Rattle.edge_list.specs.Cells.{cellIn};
 use dependence::operation::Operation;
-use texts::statement::Cell;
+use statements::statement::Cell;
 
 // From this distance on a schedule's stages keep the order by themselves.
 const TOO_FAR: usize = 8;

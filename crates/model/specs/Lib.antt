@@ -21,9 +21,15 @@ pub mod SchemeLaws
 pub mod Plain
 pub mod Issues
 pub mod Driving
+pub mod Codes
 pub mod ScheduleLives
 pub mod Files
 pub mod Pipelining
+pub mod Listing
+pub mod ListingLaws
 pub mod WorkedRun
 pub mod WorkedFaults
 pub mod Faults
+pub mod Search
+pub mod Plan
+pub mod SearchLaws

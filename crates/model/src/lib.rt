@@ -68,6 +68,23 @@ pub enum Question {
     ResultFree,
 }
 
+// The parts of a listing.
+#[derive(Clone, Copy, PartialEq, Eq, Debug)]
+pub enum Part {
+    Front,
+    Kernel,
+    Rest,
+}
+
+// The passes that are written in each part, and how often the kernel repeats.
+#[derive(Clone, Copy, PartialEq, Eq, Debug)]
+pub struct Parts {
+    pub front: usize,
+    pub kernel: usize,
+    pub repeats: usize,
+    pub rest: usize,
+}
+
 // The layer in which a call is refused.
 #[derive(Clone, Copy, PartialEq, Eq, Debug)]
 pub enum Layer {

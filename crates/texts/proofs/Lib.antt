@@ -1,9 +1,4 @@
 pub mod Names
-pub mod LoopSteps
-pub mod Pushes
-pub mod InRange
-pub mod Uses
-pub mod ByCase
 pub mod Steps
 pub mod LineSteps
 pub mod Cuts

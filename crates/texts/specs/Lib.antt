@@ -1,4 +1,3 @@
 pub mod Faults
 pub mod Seen
-pub mod Statements
 pub mod Records

@@ -90,3 +90,8 @@ opStep m a b c d =
 -- one line of a text, after what was read before it
 abbrev pub lineStep : {R : Type 0} → Rules R → R → Line → Result R Refusal
 lineStep k r l = unless (firstNo (k .asks r l)) (Ok (k .adds r l))
+
+-- what a call answers, seen by a function
+abbrev pub answered : {X Y : Type 0} → (X → Y) → Result X TextFault → Result Y Refusal
+answered f (Ok x) = Ok (f x)
+answered f (Err e) = Err (refusal e)

@@ -114,7 +114,7 @@ fn is_free(classes: &[Class], word: &[u8]) -> bool
 }
 
 // A number out of range.
-pub(crate) fn out_of_range(t: Option<Token<'_>>) -> TextFault
+pub fn out_of_range(t: Option<Token<'_>>) -> TextFault
     ensures { λ r. ⌜ r ≡ OutOfRange (orNone (shown (t .entry)) .line) (orNone (shown (t .entry)) .column) ⌝ }
 {
     let part = part_of(t);
@@ -125,7 +125,7 @@ pub(crate) fn out_of_range(t: Option<Token<'_>>) -> TextFault
 }
 
 // A name or a code that may not stand here.
-pub(crate) fn wrong_name(t: Option<Token<'_>>) -> TextFault
+pub fn wrong_name(t: Option<Token<'_>>) -> TextFault
     ensures { λ r. ⌜ r ≡ WrongName (orNone (shown (t .entry)) .line) (orNone (shown (t .entry)) .column) ⌝ }
 {
     let part = part_of(t);

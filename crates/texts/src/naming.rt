@@ -6,7 +6,7 @@ ghost use Rattle.texts.specs.Seen.{nameSeen};
 use crate::name::Name;
 
 impl Name {
-    pub(crate) fn new(word: &[u8]) -> Name
+    pub fn new(word: &[u8]) -> Name
         requires { ⌜ length (now word) ≤ 8 ⌝ }
         ensures { λ r. ⌜ nameSeen r ≡ now (word .entry) ⌝ }
     {

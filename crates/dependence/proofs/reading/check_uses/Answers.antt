@@ -4,7 +4,7 @@ use Rattle.std.proofs.shelf.Results.{err-from-errBy}
 use Rattle.std.specs.declared.option.Option.the-variants.{Some, None}
 use Rattle.model.specs.Questions.{noOr}
 use Rattle.model.specs.LoopText.{usesOf}
-use Rattle.texts.specs.Statements.{allSeen}
+use Rattle.statements.specs.Statements.{allSeen}
 use Rattle.dependence.specs.Known.{told, refusal, usesKnown}
 use Rattle.dependence.proofs.Definers.{uses-on, uses-off}
 use Rattle.dependence.proofs.reading.check_uses.Needs as need

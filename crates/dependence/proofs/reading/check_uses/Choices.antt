@@ -1,7 +1,7 @@
 use mathlib.Core.Path.{_≡_}
 use lib.ListN.{drop}
 use Rattle.model.specs.LoopText.{usesOf}
-use Rattle.texts.specs.Statements.{allSeen}
+use Rattle.statements.specs.Statements.{allSeen}
 use Rattle.dependence.specs.Known.{usesKnown}
 use Rattle.dependence.proofs.reading.check_uses.Given as given
 

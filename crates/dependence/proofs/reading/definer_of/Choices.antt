@@ -2,7 +2,7 @@ use mathlib.Core.Path.{_≡_}
 use Prim.Native.Nat.{_+_}
 use lib.ListN.{drop}
 use Rattle.model.specs.LoopText.{definer}
-use Rattle.texts.specs.Statements.{allSeen}
+use Rattle.statements.specs.Statements.{allSeen}
 use Rattle.dependence.proofs.reading.definer_of.Given as given
 
 abbrev pub Inv-loop-i : given.InvT-loop-i

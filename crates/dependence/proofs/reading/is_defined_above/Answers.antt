@@ -2,8 +2,8 @@ use mathlib.Core.Bool.{_&&_}
 use lib.Dec.{ltb}
 use mathlib.Core.Path.{_≡_, sym, ap, _∙_}
 use Rattle.model.specs.LoopText.{sameName}
-use Rattle.texts.specs.Statements.{statementSeen}
-use Rattle.texts.proofs.Uses.{some-yes, some-no, some-end}
+use Rattle.statements.specs.Statements.{statementSeen}
+use Rattle.statements.proofs.Uses.{some-yes, some-no, some-end}
 use Rattle.dependence.proofs.reading.is_defined_above.Needs as need
 
 pub returns-then-defines-above : need.returns-then-defines-above

@@ -4,7 +4,7 @@ use lib.Dec.{ltb}
 use lib.ListN.{drop}
 use Rattle.model.specs.Shapes.{some}
 use Rattle.model.specs.LoopText.{sameName}
-use Rattle.texts.specs.Statements.{allSeen}
+use Rattle.statements.specs.Statements.{allSeen}
 use Rattle.dependence.proofs.reading.is_defined_above.Given as given
 
 abbrev pub Inv-loop-s : given.InvT-loop-s

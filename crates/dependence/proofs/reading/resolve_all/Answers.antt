@@ -4,7 +4,7 @@ use native.Mathlib.Omega.{arith}
 use lib.ListN.{length, take, length-set}
 use Rattle.std.proofs.shelf.Lists.{take-all}
 use Rattle.model.specs.LoopText.{loopOf}
-use Rattle.texts.specs.Statements.{allSeen}
+use Rattle.statements.specs.Statements.{allSeen}
 use Rattle.dependence.specs.Operations.{operationsSeen}
 use Rattle.dependence.proofs.Split.{resolve-more, looked-up}
 use Rattle.dependence.proofs.reading.resolve_all.Needs as need

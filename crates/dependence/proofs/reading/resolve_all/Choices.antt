@@ -3,7 +3,7 @@ use mathlib.Core.List.{map}
 use lib.ListN.{length, take}
 use Rattle.model.specs.Loop.{on-operands}
 use Rattle.model.specs.LoopText.{resolved}
-use Rattle.texts.specs.Statements.{allSeen}
+use Rattle.statements.specs.Statements.{allSeen}
 use Rattle.dependence.specs.Operations.{operationsSeen}
 use Rattle.dependence.proofs.reading.resolve_all.Given as given
 

@@ -12,8 +12,8 @@ use Rattle.model.specs.Faults.{onErr, textFault}
 use Rattle.model.specs.Soundness.{soundLoop}
 use Rattle.text_laws.proofs.SoundLoops.{sound-loop}
 use Rattle.texts.specs.Faults.{refusal as textRefusal}
-use Rattle.texts.specs.Records.{statementsSeen}
-use Rattle.texts.specs.Statements.{allSeen}
+use Rattle.statements.specs.Records.{statementsSeen}
+use Rattle.statements.specs.Statements.{allSeen}
 use Rattle.dependence.specs.Faults.{fault}
 use Rattle.dependence.specs.Loops.{loopAnswered}
 use Rattle.dependence.specs.Operations.{operationsSeen}

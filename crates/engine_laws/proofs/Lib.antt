@@ -1,0 +1,5 @@
+pub mod Apart
+pub mod Below
+pub mod Examining
+pub mod Stepping
+pub mod DueLists

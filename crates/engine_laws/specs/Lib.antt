@@ -1,0 +1,4 @@
+pub mod Parts
+pub mod Tracks
+pub mod Rows
+pub mod Dues

@@ -1,0 +1,5 @@
+pub mod Bodies
+pub mod Appending
+pub mod Whole
+pub mod Cuts
+pub mod Filled

@@ -1,0 +1,3 @@
+pub mod Spells
+pub mod Splits
+pub mod Lines

@@ -1,0 +1,4 @@
+pub mod Views
+pub mod Boards
+pub mod Weighed
+pub mod Answers

@@ -1,0 +1,10 @@
+pub mod Uses
+pub mod Rows
+pub mod Edges
+pub mod Bounds
+pub mod Sound
+pub mod Plan
+pub mod Ties
+pub mod Crowds
+pub mod Weights
+pub mod Steps

@@ -1,0 +1,5 @@
+pub mod LoopSteps
+pub mod Pushes
+pub mod InRange
+pub mod Uses
+pub mod ByCase
