@@ -1,0 +1,4 @@
+// Loops worked by hand, and their edges by the rules.
+
+#[cfg(test)]
+mod tests;
