@@ -1,8 +1,7 @@
-// The driving machine, and the plain loop to which its runs are held.
+// The driving machine in parts: landing, examining and what a slot computes.
 pub mod asking;
 pub mod dues;
 pub mod examining;
-pub mod issuing;
 pub mod landing;
 pub mod reading;
 pub mod slot;

@@ -14,7 +14,6 @@ use crate::listing::Listing;
 use crate::parts::split;
 use crate::refusal::Unwritable;
 use crate::rows::Rows;
-use crate::slot::Slot;
 use dependence::loops::Loop;
 use model::Parts;
 use registers::scheme::Scheme;
@@ -83,30 +82,5 @@ impl Listing {
         self.trips = trips;
         self.interval = interval;
         Ok(())
-    }
-
-    // The slots by part, pass, row and operation.
-    pub fn slots(&self) -> &[Slot]
-        ensures { λ r. ⌜ now r ≡ vec-items (now (self .entry) .rows .slots) ⌝ }
-    {
-        self.rows.slots.as_slice()
-    }
-
-    pub fn parts(&self) -> Parts
-        ensures { λ r. ⌜ r ≡ now (self .entry) .parts ⌝ }
-    {
-        self.parts
-    }
-
-    pub fn trips(&self) -> usize
-        ensures { λ r. ⌜ r ≡ now (self .entry) .trips ⌝ }
-    {
-        self.trips
-    }
-
-    pub fn interval(&self) -> usize
-        ensures { λ r. ⌜ r ≡ now (self .entry) .interval ⌝ }
-    {
-        self.interval
     }
 }

@@ -9,4 +9,5 @@ pub mod reading;
 pub mod refusal;
 pub mod rows;
 pub mod slot;
+pub mod telling;
 pub mod writing;

@@ -1,0 +1,4 @@
+// Listings worked by hand from the definition.
+
+#[cfg(test)]
+mod tests;
