@@ -114,17 +114,9 @@ fn parts_of_the_sum(rt: LibcRuntime) -> Result<(), Fail> {
     ];
     for (turns, end, trips, expected, slots) in rows {
         let mut scheme = Expanded::new();
-<<<<<<< HEAD
-        check_eq(scheme.fit(&lives(2, 2, 2 * (turns - 1))?), Some(turns))?;
-        check_eq(
-            listing.write(&body, &times(0, 2, 3), 2, &scheme, turns, trips),
-            Ok(()),
-        )?;
-=======
         check_eq(scheme.fit(&lives(2, 2, end)?), Some(turns))?;
         let answer = listing.write(&body, &times(0, 2, 3), 2, &scheme, turns, trips);
         check_eq(refused(answer), None)?;
->>>>>>> 68509e4911f62b89a16235b846d2b76c0222e701
         check_eq(listing.parts(), expected)?;
         check_eq(listing.slots().len(), slots)?;
         check_eq(listing.trips(), trips)?;
