@@ -1,4 +1,5 @@
 // The minimum of a loop with its witness, and heights, by one relaxation over the edges.
+#![tactic(auto)]
 
 mod answer;
 mod bound;

@@ -1,4 +1,6 @@
 // Plays a call script from standard input, and prints every answer.
+#![tactic(auto)]
+
 mod play;
 mod print;
 

@@ -1,4 +1,6 @@
 // The loop with its definers, and its dependences.
+#![tactic(auto)]
+
 pub mod fault;
 pub mod hardware;
 pub mod loops;

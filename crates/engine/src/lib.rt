@@ -1,4 +1,6 @@
 // The driving machine.
+#![tactic(auto)]
+
 pub mod answer;
 mod cycles;
 pub mod driving;

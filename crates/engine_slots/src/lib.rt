@@ -1,4 +1,6 @@
 // The slots of a row as they issue, and the questions about them.
+#![tactic(auto)]
+
 pub mod asking;
 pub mod examining;
 pub mod slot;

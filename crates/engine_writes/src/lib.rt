@@ -1,4 +1,6 @@
 // What the slots of a row write: results that wait until they land, and stores.
+#![tactic(auto)]
+
 pub mod dues;
 pub mod issuing;
 pub mod landing;

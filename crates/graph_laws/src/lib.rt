@@ -1,4 +1,6 @@
 // The functions that carry the laws of edges, circuits and the minimum: each law stands in a contract.
+#![tactic(auto)]
+
 ghost use Rattle.model.specs.GraphLaws.{ListMeansRules, EdgesLeadForward, DelaysAreShort, NoStandingCircuit, FixedIsHeight, ChangeGivesCircuit, CircuitTellsMinimum, NoSmallerInterval, ClassExcludes, CircuitExcludes, AtMostSequential, SequentialIsSchedule, EdgesFit};
 ghost use Rattle.model.specs.MemoryOrder.{MemoryInOrder, OperandsLanded};
 

@@ -1,4 +1,6 @@
 // The listing: a loop in its schedule, written out in names of registers as front, kernel and rest.
+#![tactic(auto)]
+
 pub mod body;
 pub mod filling;
 pub mod listing;

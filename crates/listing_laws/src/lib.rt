@@ -1,4 +1,6 @@
 // The laws of the listing. The statements are in the model, the proofs in proofs/.
+#![tactic(auto)]
+
 ghost use Rattle.model.specs.ListingLaws.{ListingMeans, ListingSizes};
 
 // In every cycle of the run, the listing says what issues.

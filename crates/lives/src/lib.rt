@@ -1,4 +1,6 @@
 // The lives of a schedule, its stages, and the sequential schedule.
+#![tactic(auto)]
+
 mod ends;
 mod fill;
 mod sequence;

@@ -1,4 +1,5 @@
 // The words that every layer shares, and the functions that carry the theorems about the definitions in specs/.
+#![tactic(auto)]
 
 // What an operation does.
 #[derive(Clone, Copy, PartialEq, Eq, Debug)]

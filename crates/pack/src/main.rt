@@ -1,4 +1,6 @@
 // Reads a machine file and a loop file, and prints what they say.
+#![tactic(auto)]
+
 mod evidence;
 mod refused;
 mod show;

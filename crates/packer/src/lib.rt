@@ -1,4 +1,6 @@
 // The packer: five calls, and lists of them.
+#![tactic(auto)]
+
 mod calls;
 mod hardware;
 mod packer;

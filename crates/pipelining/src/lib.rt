@@ -1,4 +1,6 @@
 // The functions that carry the pipelining theorem: it stands in their contracts.
+#![tactic(auto)]
+
 ghost use Rattle.model.specs.Pipelining.{Pipelining, StagesByTimes};
 ghost use Rattle.model.specs.ScheduleLives.{LivesLast};
 

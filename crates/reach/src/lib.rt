@@ -1,2 +1,4 @@
 // Which cells a loop touches.
+#![tactic(auto)]
+
 pub mod reaching;

@@ -1,4 +1,6 @@
 // Cuts the lines of a text into tokens that borrow it.
+#![tactic(auto)]
+
 pub mod lines;
 pub mod reader;
 pub mod row;

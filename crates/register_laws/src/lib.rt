@@ -1,4 +1,6 @@
 // The laws of the two register schemes. The statements are in the model, the proofs in proofs/.
+#![tactic(auto)]
+
 ghost use Rattle.model.specs.Schemes.{rotating, expanded};
 ghost use Rattle.model.specs.SchemeLaws.{KeepsLaw, NamesResolve, PlacesByFormula, WorkedLives};
 

@@ -1,4 +1,6 @@
 // Register schemes: tables of lives, what a scheme is, and the rotating and the expanded scheme.
+#![tactic(auto)]
+
 pub mod expanded;
 pub mod expansion;
 pub mod lives;

@@ -1,4 +1,6 @@
 // The times of a schedule, the stage and the row of a time, and the reservation table.
+#![tactic(auto)]
+
 mod booking;
 mod rows;
 mod table;

@@ -1,4 +1,6 @@
 // The plan of a loop.
+#![tactic(auto)]
+
 mod answer;
 mod attempt;
 mod choice;

@@ -1,4 +1,6 @@
 // What the code of the plan rests on.
+#![tactic(auto)]
+
 ghost use Rattle.schedule_laws.specs.Laws.{OnMachines, RoundsAreHeights};
 
 // A loop and a machine whose texts were accepted are a loop on its machine.

@@ -1,4 +1,6 @@
 // The search at an interval.
+#![tactic(auto)]
+
 mod board;
 mod outcome;
 mod pick;

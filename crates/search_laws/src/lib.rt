@@ -1,4 +1,6 @@
 // The laws of the search and of the plan, each as the contract of a function that does nothing.
+#![tactic(auto)]
+
 ghost use Rattle.model.specs.SearchLaws.{PickIsHighest, SearchIsSound, SequentialStands, PlanIsSound, PlanEnds, PlanIsOne, PlanSucceeds};
 
 // The pick is the highest operation that is not placed, the lowest number among equals.

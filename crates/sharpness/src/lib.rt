@@ -1,4 +1,6 @@
 // Three cases in which one hypothesis of the pipelining theorem is missing, and the driving machine leaves another memory than the plain loop.
+#![tactic(auto)]
+
 ghost use Rattle.sharpness.specs.BrokenEdge.{BrokenEdge};
 ghost use Rattle.sharpness.specs.BrokenLaw.{BrokenLaw};
 ghost use Rattle.sharpness.specs.NineStages.{NineStages};

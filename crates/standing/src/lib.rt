@@ -1,4 +1,6 @@
 // What stands in a packer, and the two calls that read a text.
+#![tactic(auto)]
+
 mod desk;
 mod fault;
 mod plan;

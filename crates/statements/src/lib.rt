@@ -1,4 +1,6 @@
 // The loop text: its statements and their reading, names not yet looked up.
+#![tactic(auto)]
+
 pub(crate) mod loop_form;
 pub mod loop_text;
 pub(crate) mod operands;

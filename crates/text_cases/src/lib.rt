@@ -1,4 +1,5 @@
 // Machine texts and loop texts, good and bad, and what the rules answer to each.
+#![tactic(auto)]
 
 #[cfg(test)]
 mod loops;

@@ -1,4 +1,6 @@
 // What the definitions of the two texts are for, as the contracts of functions that do nothing.
+#![tactic(auto)]
+
 ghost use Rattle.model.specs.Soundness.{TextsAreSound};
 ghost use Rattle.model.specs.TextLaws.{MachineLaw, LoopLaw};
 

@@ -1,4 +1,6 @@
 // The stage and the row of an operation, from its time.
+#![tactic(auto)]
+
 ghost use Rattle.std.specs.Prelude.{◌≡◌, ◌/◌, ◌%◌, ◌<◌};
 
 // At interval 0, which no schedule has, there is one stage.

@@ -1,4 +1,6 @@
 // The functions that carry the worked examples: the definitions answer as told.
+#![tactic(auto)]
+
 ghost use Rattle.model.specs.WorkedRun.{WorkedRun};
 ghost use Rattle.model.specs.WorkedFaults.{WorkedFaults};
 
