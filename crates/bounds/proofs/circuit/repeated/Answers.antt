@@ -26,8 +26,8 @@ bounds-path-j c =
     c.requires.within c.requires.inside c.requires.long full c.requires.walk.1 inv.4 inv.3 c.loop-seen-test.true in
     let m = g.more in search rules
 
-pub offset-bounds-edges-path : goal.offset-bounds-edges-path
-offset-bounds-edges-path c =
+pub offset_bounds-edges-path : goal.offset_bounds-edges-path
+offset_bounds-edges-path c =
     let inv = c.loop-seen.invariant in
     let full : c.args.path.now.len ≤ length c.args.path.now.edges = search rules in
     let g = walk_goes_on c.args.edges.now c.args.start _ c.args.count c.args.path.now.len c.loop-seen.j c.loop-seen.at c.args.path.now.edges c.loop-seen.seen

@@ -16,20 +16,20 @@ offered-better-requires c = record { fits = fits_at 32 _ _ c.requires.fit c.loop
 pub bounds-values-e : goal.bounds-values-e
 bounds-values-e c = (fits_at 32 _ _ c.requires.fit c.loop-x-test.true).from
 
-pub offset-bounds-values-e : goal.offset-bounds-values-e
-offset-bounds-values-e c = let s = fits_at 32 _ _ c.requires.fit c.loop-x-test.true in search rules
+pub offset_bounds-values-e : goal.offset_bounds-values-e
+offset_bounds-values-e c = let s = fits_at 32 _ _ c.requires.fit c.loop-x-test.true in search rules
 
 pub bounds-values-e-then-values-e : goal.bounds-values-e-then-values-e
 bounds-values-e-then-values-e c = (fits_at 32 _ _ c.requires.fit c.loop-x-test.true).from
 
-pub offset-bounds-values-e-then-values-e : goal.offset-bounds-values-e-then-values-e
-offset-bounds-values-e-then-values-e c = let s = fits_at 32 _ _ c.requires.fit c.loop-x-test.true in search rules
+pub offset_bounds-values-e-then-values-e : goal.offset_bounds-values-e-then-values-e
+offset_bounds-values-e-then-values-e c = let s = fits_at 32 _ _ c.requires.fit c.loop-x-test.true in search rules
 
 pub bounds-marks-e : goal.bounds-marks-e
 bounds-marks-e c = (fits_at 32 _ _ c.requires.fit c.loop-x-test.true).from
 
-pub offset-bounds-marks-e : goal.offset-bounds-marks-e
-offset-bounds-marks-e c = let s = fits_at 32 _ _ c.requires.fit c.loop-x-test.true in search rules
+pub offset_bounds-marks-e : goal.offset_bounds-marks-e
+offset_bounds-marks-e c = let s = fits_at 32 _ _ c.requires.fit c.loop-x-test.true in search rules
 
 pub loop-x-preserved : goal.loop-x-preserved
 loop-x-preserved c =

@@ -5,8 +5,8 @@ use Rattle.graph_laws.proofs.Top.{busy_yes, busy_no}
 use Rattle.bounds.proofs.resource.busy_sum.Goals as goal
 use Rattle.bounds.proofs.resource.busy_sum.Goals.{then-timing-class, else-timing-class}
 
-pub overflow-add-sum : goal.overflow-add-sum
-overflow-add-sum c =
+pub overflow_add-sum : goal.overflow_add-sum
+overflow_add-sum c =
     let s : (timing c.args.timings.now c.loop-timing.timing-index).busy ≤ 8 = All-get_or (λ u. u.busy ≤ 8) c.args.timings.now c.loop-timing.timing-index _ c.loop-timing-test.true c.requires.short in
     omega (arith, c.loop-timing.invariant.1, c.requires.few)
 

@@ -8,20 +8,20 @@ use Rattle.graph_laws.proofs.Top.{units_at}
 use Rattle.bounds.proofs.resource.resource_minimum.Goals as goal
 use Rattle.bounds.proofs.resource.resource_minimum.Goals.{then-interval-own, else-interval-own}
 
-pub busy-sum-requires : goal.busy-sum-requires
-busy-sum-requires c = record {
+pub busy_sum-requires : goal.busy_sum-requires
+busy_sum-requires c = record {
   few = c.requires.few;
   short = All-weaker (TimingFits (length c.args.units.now)) (λ u. u.busy ≤ 8) (λ u f. f.short) c.args.timings.now c.requires.fits.each;
 }
 
-pub overflow-sub-own : goal.overflow-sub-own
-overflow-sub-own c = omega (arith, units_at c.args.timings.now c.args.units.now c.requires.fits c.loop-u.u c.loop-u-test.true)
+pub overflow_sub-own : goal.overflow_sub-own
+overflow_sub-own c = omega (arith, units_at c.args.timings.now c.args.units.now c.requires.fits c.loop-u.u c.loop-u-test.true)
 
-pub overflow-add-own : goal.overflow-add-own
-overflow-add-own c = omega (arith, c.busy_sum.ensures.limit, units_at c.args.timings.now c.args.units.now c.requires.fits c.loop-u.u c.loop-u-test.true)
+pub overflow_add-own : goal.overflow_add-own
+overflow_add-own c = omega (arith, c.busy_sum.ensures.limit, units_at c.args.timings.now c.args.units.now c.requires.fits c.loop-u.u c.loop-u-test.true)
 
-pub nonzero-div-own : goal.nonzero-div-own
-nonzero-div-own c = omega (arith, units_at c.args.timings.now c.args.units.now c.requires.fits c.loop-u.u c.loop-u-test.true)
+pub nonzero_div-own : goal.nonzero_div-own
+nonzero_div-own c = omega (arith, units_at c.args.timings.now c.args.units.now c.requires.fits c.loop-u.u c.loop-u-test.true)
 
 pub loop-u-preserved : goal.loop-u-preserved
 loop-u-preserved c =

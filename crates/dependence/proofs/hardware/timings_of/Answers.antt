@@ -12,8 +12,8 @@ loop-i-preserved c =
     let l = c.args.l.now in
     let m = machine_seen c.args.machine.now in (
       length-set c.loop-i.timings c.loop-i.i _ ∙ inv.0,
-      filled_at (λ o. timing_of m (code_of (operation_seen o))) l.operations c.loop-i.timings c.loop-i.i _ c.timing-of.result (omega (arith, l.whole, l.few)) (omega (arith, inv.0, l.few))
-          (c.timing-of.ensures ∙ ap (timing_of m) c.code.ensures) inv.1,
+      filled_at (λ o. timing_of m (code_of (operation_seen o))) l.operations c.loop-i.timings c.loop-i.i _ c.timing_of.result (omega (arith, l.whole, l.few)) (omega (arith, inv.0, l.few))
+          (c.timing_of.ensures ∙ ap (timing_of m) c.code.ensures) inv.1,
     )
 
 pub returns : goal.returns

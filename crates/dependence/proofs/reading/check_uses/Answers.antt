@@ -8,15 +8,15 @@ use Rattle.dependence.specs.Known.{told, refusal, uses_known}
 use Rattle.dependence.proofs.Definers.{uses_on, uses_off}
 use Rattle.dependence.proofs.reading.check_uses.Goals as goal
 
-pub returns-in-err-check-action : goal.returns-in-err-check-action
-returns-in-err-check-action c =
-    let p = err_from_is_err_and c.from-residual.result c.from-residual.ensures.1 in
+pub returns-in_err-check_action : goal.returns-in_err-check_action
+returns-in_err-check_action c =
+    let p = err_from_is_err_and c.from_residual.result c.from_residual.ensures.1 in
     ap told p.1 ∙ ap (λ f. Some (refusal f)) p.2
-    ∙ uses_off c.args.statements.now c.loop-s.s-index c.s-item.result c.loop-s-test.true c.s-item.is _ c.loop-s.invariant _ c.in-err-check-action.ensures
+    ∙ uses_off c.args.statements.now c.loop-s.s-index c.s-item.result c.loop-s-test.true c.s-item.is _ c.loop-s.invariant _ c.in_err-check_action.ensures
 
 pub loop-s-preserved : goal.loop-s-preserved
 loop-s-preserved c =
-    uses_on c.args.statements.now c.loop-s.s-index c.s-item.result c.loop-s-test.true c.s-item.is _ c.loop-s.invariant c.in-ok-check-action.ensures
+    uses_on c.args.statements.now c.loop-s.s-index c.s-item.result c.loop-s-test.true c.s-item.is _ c.loop-s.invariant c.in_ok-check_action.ensures
 
 pub returns : goal.returns
 returns c =

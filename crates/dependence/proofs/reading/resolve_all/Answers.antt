@@ -10,8 +10,8 @@ pub loop-i-preserved : goal.loop-i-preserved
 loop-i-preserved c =
     let inv = c.loop-i.invariant in (
       length-set c.loop-i.operations c.loop-i.i _ ∙ inv.0,
-      resolve_more (all_seen c.args.statements.now) c.args.statements.now c.loop-i.operations c.loop-i.i c.index-statements-i.result c.resolve-action.result
-          c.loop-i-test.true (omega (arith, c.requires, c.loop-i-test.true, inv.0)) c.index-statements-i.is c.resolve-action.ensures inv.1,
+      resolve_more (all_seen c.args.statements.now) c.args.statements.now c.loop-i.operations c.loop-i.i c.index-statements-i.result c.resolve_action.result
+          c.loop-i-test.true (omega (arith, c.requires, c.loop-i-test.true, inv.0)) c.index-statements-i.is c.resolve_action.ensures inv.1,
     )
 
 pub returns : goal.returns

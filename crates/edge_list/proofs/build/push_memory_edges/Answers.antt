@@ -7,8 +7,8 @@ use Rattle.edge_list.proofs.Appending.{room_more, appended_more}
 use Rattle.edge_list.proofs.Reading.{seen_count}
 use Rattle.edge_list.proofs.build.push_memory_edges.Goals as goal
 
-pub push-row-requires : goal.push-row-requires
-push-row-requires c =
+pub push_row-requires : goal.push_row-requires
+push_row-requires c =
     let l = c.args.l.now in
     record {
       inside = c.loop-p-test.true;
@@ -18,7 +18,7 @@ push-row-requires c =
 pub loop-p-preserved : goal.loop-p-preserved
 loop-p-preserved c =
     let l = c.args.l.now in
-    appended_more (row_of l) c.args.list.now c.loop-p.list c.loop-p.p (length (loop_seen l)) c.loop-p.invariant c.push-row.new.list c.push-row.ensures
+    appended_more (row_of l) c.args.list.now c.loop-p.list c.loop-p.p (length (loop_seen l)) c.loop-p.invariant c.push_row.new.list c.push_row.ensures
 
 pub returns : goal.returns
 returns c =

@@ -8,8 +8,8 @@ use Rattle.edge_list.proofs.Appending.{room_more, appended_more}
 use Rattle.edge_list.proofs.Reading.{seen_count, op_at}
 use Rattle.edge_list.proofs.build.push_operand_edges.Goals as goal
 
-pub push-operands-requires : goal.push-operands-requires
-push-operands-requires c =
+pub push_operands-requires : goal.push_operands-requires
+push_operands-requires c =
     let l = c.args.l.now in
     let m = c.args.machine.now in
     let q = c.loop-q.q in
@@ -21,8 +21,8 @@ loop-q-preserved c =
     let l = c.args.l.now in
     let m = c.args.machine.now in
     let q = c.loop-q.q in
-    appended_more (operands_of m l) c.args.list.now c.loop-q.list q (length (loop_seen l)) c.loop-q.invariant c.push-operands.new.list
-    (subst (λ o. Appended c.loop-q.list c.push-operands.new.list (operand_edges (hardware_of m l) q (operands o))) (sym (op_at l q c.loop-q-test.true _)) c.push-operands.ensures)
+    appended_more (operands_of m l) c.args.list.now c.loop-q.list q (length (loop_seen l)) c.loop-q.invariant c.push_operands.new.list
+    (subst (λ o. Appended c.loop-q.list c.push_operands.new.list (operand_edges (hardware_of m l) q (operands o))) (sym (op_at l q c.loop-q-test.true _)) c.push_operands.ensures)
 
 pub returns : goal.returns
 returns c =

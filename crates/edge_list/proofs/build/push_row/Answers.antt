@@ -12,8 +12,8 @@ loop-q-init c =
     let v = c.args.list.now in
     subst (λ r. Appended v v r) (sym (row_start (loop_seen c.args.l.now) c.args.p (c.args.p + 1) (omega arith))) (appended_none v)
 
-pub push-between-requires : goal.push-between-requires
-push-between-requires c =
+pub push_between-requires : goal.push_between-requires
+push_between-requires c =
     let l = c.args.l.now in
     let p = c.args.p in
     let q = c.loop-q.q in
@@ -26,7 +26,7 @@ push-between-requires c =
 pub loop-q-preserved : goal.loop-q-preserved
 loop-q-preserved c =
     let l = c.args.l.now in
-    appended_more (between (loop_seen l) c.args.p) c.args.list.now c.loop-q.list c.loop-q.q (length (loop_seen l)) c.loop-q.invariant c.push-between.new.list c.push-between.ensures
+    appended_more (between (loop_seen l) c.args.p) c.args.list.now c.loop-q.list c.loop-q.q (length (loop_seen l)) c.loop-q.invariant c.push_between.new.list c.push_between.ensures
 
 pub returns : goal.returns
 returns c =

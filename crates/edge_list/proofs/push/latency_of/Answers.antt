@@ -9,5 +9,5 @@ returns-then-definer-l c = sym (no_latency c.args.l.now c.args.machine.now c.arg
 
 pub returns : goal.returns
 returns c =
-    ap (λ t. t.latency) (c.timing-of.ensures ∙ ap (timing_of (machine_seen c.args.machine.now)) c.code.ensures)
+    ap (λ t. t.latency) (c.timing_of.ensures ∙ ap (timing_of (machine_seen c.args.machine.now)) c.code.ensures)
     ∙ sym (latency_at c.args.l.now c.args.definer c.if-definer-l.false _ c.args.machine.now)

@@ -34,5 +34,5 @@ returns g c = λ k pass row m stands.
     let same = row_slots scheme.resolve hardware.timings rows issued k cycle p c.args.moment.row _ _ pass row c.row-first.ensures in
     let landed = landings dom cycle scheme.file _ m _ _ _ t stands c.file-file.ensures _ _ _ c.land.ensures in
     admitted dom (units_of hardware.units) k c.args.trips cycle scheme.file (form_of scheme.resolve hardware.timings k rows) _ same m _ _ _ t stands _ _ landed.0
-    p pass _ _ _ _ _ _ c.in-default.ensures landed.1 c.await-all.ensures c.store-all.ensures
-    (λ s x tracks. next_cycle cycle _ _ _ s x tracks c.clear-units.ensures.cleared c.clear-units.ensures.others)
+    p pass _ _ _ _ _ _ c.in_default.ensures landed.1 c.await_all.ensures c.store_all.ensures
+    (λ s x tracks. next_cycle cycle _ _ _ s x tracks c.clear_units.ensures.cleared c.clear_units.ensures.others)

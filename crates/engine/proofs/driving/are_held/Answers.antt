@@ -7,11 +7,11 @@ use Rattle.engine.proofs.Driven.{held_all}
 use Rattle.engine.proofs.driving.are_held.Goals as goal
 
 pub loop-j-preserved : goal.loop-j-preserved
-loop-j-preserved c = all_below_more (λ j. timing_held (timing c.args.timings.now j)) c.loop-j.j c.loop-j.invariant (sym c.is-held.ensures ∙ c.if-not-is-held.false)
+loop-j-preserved c = all_below_more (λ j. timing_held (timing c.args.timings.now j)) c.loop-j.j c.loop-j.invariant (sym c.is_held.ensures ∙ c.if-not-is_held.false)
 
-pub returns-then-not-is-held : goal.returns-then-not-is-held
-returns-then-not-is-held c = record {
-  is = all_below_no (λ j. timing_held (timing c.args.timings.now j)) 6 c.loop-j.j c.loop-j-test.true (sym c.is-held.ensures ∙ c.if-not-is-held.true);
+pub returns-then-not-is_held : goal.returns-then-not-is_held
+returns-then-not-is_held c = record {
+  is = all_below_no (λ j. timing_held (timing c.args.timings.now j)) 6 c.loop-j.j c.loop-j-test.true (sym c.is_held.ensures ∙ c.if-not-is_held.true);
   held = λ e. let z : ◌≡◌ {A = ℕ} 0 1 = cc in absurd (omega arith);
 }
 

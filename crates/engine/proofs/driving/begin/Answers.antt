@@ -8,5 +8,5 @@ always (Err y) p = tt
 pub returns : goal.returns
 returns c = record {
   is = search rules;
-  held = always c.ok-or.result (c.are-held.ensures.held c.if-not-are-held.false);
+  held = always c.ok_or.result (c.are_held.ensures.held c.if-not-are_held.false);
 }

@@ -7,23 +7,23 @@ use Rattle.engine.specs.Answers.{begins, lent, Ran}
 use Rattle.engine.proofs.Driven.{begun, whole, answers}
 use Rattle.engine.proofs.driving.drive.Goals as goal
 
-pub run-cycles-requires : goal.run-cycles-requires
-run-cycles-requires g c =
+pub run_cycles-requires : goal.run_cycles-requires
+run_cycles-requires g c =
     let timings = c.args.hardware.now.timings in
     let values = length c.args.values.now in
     let waiting = length c.args.waiting.now in
     let cycles = c.args.run.passes * c.args.run.interval in
     let file = (g.S.Scheme.meaning c.args.scheme.now).file in
-    let begins-so : begins timings file values waiting cycles ≡ Ok c.in-ok-cycles.cycles =
-    ap (λ f. begins timings f values waiting cycles) (sym c.file.ensures) ∙ sym c.begin.ensures.is ∙ c.in-ok-cycles.was in
-    let all = begun timings file values waiting cycles c.in-ok-cycles.cycles begins-so in
+    let begins-so : begins timings file values waiting cycles ≡ Ok c.in_ok-cycles.cycles =
+    ap (λ f. begins timings f values waiting cycles) (sym c.file.ensures) ∙ sym c.begin.ensures.is ∙ c.in_ok-cycles.was in
+    let all = begun timings file values waiting cycles c.in_ok-cycles.cycles begins-so in
     record {
-      held = (c.in-ok-cycles.ensures.held, (all.dues_fit, all.cycles_are));
+      held = (c.in_ok-cycles.ensures.held, (all.dues_fit, all.cycles_are));
       fits = (all.values_fit, all.waiting_fit);
     }
 
-pub returns-in-err-run-cycles : goal.returns-in-err-run-cycles
-returns-in-err-run-cycles g c =
+pub returns-in_err-run_cycles : goal.returns-in_err-run_cycles
+returns-in_err-run_cycles g c =
     let dom = g.D.Domain.operations in
     let scheme = g.S.Scheme.meaning c.args.scheme.now in
     let timings = c.args.hardware.now.timings in
@@ -31,14 +31,14 @@ returns-in-err-run-cycles g c =
     let waiting = length c.args.waiting.now in
     let k = c.args.run.interval in
     let cycles = c.args.run.passes * k in
-    let begins-so : begins timings scheme.file values waiting cycles ≡ Ok c.in-ok-cycles.cycles =
-    ap (λ f. begins timings f values waiting cycles) (sym c.file.ensures) ∙ sym c.begin.ensures.is ∙ c.in-ok-cycles.was in
-    let p = err_from_is_err_and c.from-residual-in-err-run-cycles.result c.from-residual-in-err-run-cycles.ensures.1 in
-    answers dom timings scheme.file values waiting cycles c.in-ok-cycles.cycles
+    let begins-so : begins timings scheme.file values waiting cycles ≡ Ok c.in_ok-cycles.cycles =
+    ap (λ f. begins timings f values waiting cycles) (sym c.file.ensures) ∙ sym c.begin.ensures.is ∙ c.in_ok-cycles.was in
+    let p = err_from_is_err_and c.from_residual-in_err-run_cycles.result c.from_residual-in_err-run_cycles.ensures.1 in
+    answers dom timings scheme.file values waiting cycles c.in_ok-cycles.cycles
     (λ n. run dom (units_of c.args.hardware.now.units) k c.args.run.trips (form_of scheme.resolve timings k (g.C.Code.form c.args.code.now)) n
     (lent dom c.args.memory.now c.args.values.now c.args.waiting.now))
-    _ _ _ _ _ _ c.run-cycles.result _ begins-so c.run-cycles.ensures
-    (p.1 ∙ ap Err p.2 ∙ ap (whole c.in-ok-cycles.cycles) (sym c.in-err-run-cycles.was))
+    _ _ _ _ _ _ c.run_cycles.result _ begins-so c.run_cycles.ensures
+    (p.1 ∙ ap Err p.2 ∙ ap (whole c.in_ok-cycles.cycles) (sym c.in_err-run_cycles.was))
 
 pub returns : goal.returns
 returns g c =
@@ -49,10 +49,10 @@ returns g c =
     let waiting = length c.args.waiting.now in
     let k = c.args.run.interval in
     let cycles = c.args.run.passes * k in
-    let begins-so : begins timings scheme.file values waiting cycles ≡ Ok c.in-ok-cycles.cycles =
-    ap (λ f. begins timings f values waiting cycles) (sym c.file.ensures) ∙ sym c.begin.ensures.is ∙ c.in-ok-cycles.was in
-    answers dom timings scheme.file values waiting cycles c.in-ok-cycles.cycles
+    let begins-so : begins timings scheme.file values waiting cycles ≡ Ok c.in_ok-cycles.cycles =
+    ap (λ f. begins timings f values waiting cycles) (sym c.file.ensures) ∙ sym c.begin.ensures.is ∙ c.in_ok-cycles.was in
+    answers dom timings scheme.file values waiting cycles c.in_ok-cycles.cycles
     (λ n. run dom (units_of c.args.hardware.now.units) k c.args.run.trips (form_of scheme.resolve timings k (g.C.Code.form c.args.code.now)) n
     (lent dom c.args.memory.now c.args.values.now c.args.waiting.now))
-    _ _ _ _ _ _ c.run-cycles.result _ begins-so c.run-cycles.ensures
-    (ap (whole c.in-ok-cycles.cycles) (sym c.in-ok-run-cycles.was))
+    _ _ _ _ _ _ c.run_cycles.result _ begins-so c.run_cycles.ensures
+    (ap (whole c.in_ok-cycles.cycles) (sym c.in_ok-run_cycles.was))

@@ -38,8 +38,8 @@ returns-in-Some g c =
     c.args.memory.now c.args.values.now c.args.waiting.now c.loop-cycle.cycle _ _ _ _ _ _ _ _ inv.3
     c.in-Some.denial c.args.cycles c.loop-cycle-test.true (c.in-Some.ensures k quotient remainder)
 
-pub overflow-add-pass : goal.overflow-add-pass
-overflow-add-pass g c =
+pub overflow_add-pass : goal.overflow_add-pass
+overflow_add-pass g c =
     let small : c.loop-cycle.row < c.args.run.interval = c.loop-cycle.invariant.1 c.loop-cycle-test.true in
     let some : 0 < c.args.run.interval = omega arith in
     omega (arith, c.loop-cycle.invariant.0, le-mul_of_pos_right c.loop-cycle.pass some, c.loop-cycle-test.true, c.requires.held.1.0)
@@ -57,7 +57,7 @@ loop-cycle-preserved g c =
     let running = one_more g.D.Domain.operations (units_of c.args.hardware.now.units) k c.args.run.trips scheme.file
     (form_of scheme.resolve c.args.hardware.now.timings k (g.C.Code.form c.args.code.now))
     c.args.memory.now c.args.values.now c.args.waiting.now c.loop-cycle.cycle _ _ _ _ _ _ _ _ inv.3
-    (c.in-default.ensures k quotient remainder) in
+    (c.in_default.ensures k quotient remainder) in
     let place : (c.if-row-run.pass * k + c.if-row-run.row ≡ c.loop-cycle.cycle + 1) × (c.if-row-run.row < k) = elim c.if-row-run.branch [
       | then-row-run w ↦ rw (w.pass-is, w.row-is) (omega (arith, inv.0, add-mul pass 1 k, w.if-row-run.true), omega arith)
       | else-row-run w ↦ rw (w.pass-is, w.row-is) (omega (arith, inv.0), omega (arith, w.if-row-run.false))

@@ -4,12 +4,12 @@ use Rattle.engine_slots.specs.Slots.{slot_of}
 use Rattle.engine_slots.specs.Rows.{slot_at, units_of}
 use Rattle.engine_slots.proofs.examining.examine.Goals as goal
 
-pub loop-place-preserved-in-default : goal.loop-place-preserved-in-default
-loop-place-preserved-in-default g c = (
+pub loop-place-preserved-in_default : goal.loop-place-preserved-in_default
+loop-place-preserved-in_default g c = (
   omega arith,
   λ k m pass whole tracks.
       let before = c.loop-place.invariant.1 k m pass whole tracks in
-      (before.0, passed_over _ k _ _ _ _ _ _ _ _ _ m before.0 before.1 c.loop-place-test.true (sym c.in-default.ensures.is)),
+      (before.0, passed_over _ k _ _ _ _ _ _ _ _ _ m before.0 before.1 c.loop-place-test.true (sym c.in_default.ensures.is)),
 )
 
 pub returns-in-Some-admit : goal.returns-in-Some-admit
@@ -27,7 +27,7 @@ loop-place-preserved g c = (
   λ k m pass whole tracks.
       let before = c.loop-place.invariant.1 k m pass whole tracks in
       let held = c.in-Some.ensures.within c.requires.0 in
-      let after = c.in-default-admit.ensures in (
+      let after = c.in_default-admit.ensures in (
         _,
         admitted _ k _ _ _ _ _ _ _ _ _ m before.0 before.1 (slot_of c.in-Some.slot) c.args.row.pass c.args.bounds.cells held.timing.class held.timing.busy pass whole c.loop-place-test.true (sym c.in-Some.ensures.is)
             _ _ after.verdict (after.tracked _ _ before.1.follows refl),

@@ -7,7 +7,7 @@ use Rattle.engine_slots.specs.Rows.{slot_at}
 use Rattle.engine_writes.specs.Steps.{WaitedSoFar}
 use Rattle.engine_writes.proofs.Issued.{waited_first, waited_more, waited_all}
 use Rattle.engine_writes.proofs.issuing.await_all.Goals as goal
-use Rattle.engine_writes.proofs.issuing.await_all.Goals.{in-Some, in-default}
+use Rattle.engine_writes.proofs.issuing.await_all.Goals.{in-Some, in_default}
 
 pub loop-place-init : goal.loop-place-init
 loop-place-init g c = waited_first g.D.Domain.operations _ _ _ _ _ _ _ _ _
@@ -30,10 +30,10 @@ loop-place-preserved g c =
           let within = w.in-Some.ensures.within c.requires.held.0 in
           rw (w.waiting_is, w.dues-is, w.counts-is)
           (waited_more dom c.args.values.now p c.args.memory.now c.args.row.cycle file slots _ _ _ _ _ _ (slots_from f end (at + 1)) (slot_of w.in-Some.slot) _ _ _ here
-          (w.await-one.ensures file within.target))
-      | in-default w ↦
+          (w.await_one.ensures file within.target))
+      | in_default w ↦
           rw (w.waiting_is, w.dues-is, w.counts-is)
-          (subst Left (from_none f end at c.loop-place-test.true (sym w.in-default.ensures.is)) c.loop-place.invariant)
+          (subst Left (from_none f end at c.loop-place-test.true (sym w.in_default.ensures.is)) c.loop-place.invariant)
     ]
 
 pub returns : goal.returns

@@ -6,7 +6,7 @@ use Rattle.engine_slots.specs.Rows.{slot_at}
 use Rattle.engine_writes.specs.Steps.{StoredSoFar}
 use Rattle.engine_writes.proofs.Issued.{stored_more, stored_all}
 use Rattle.engine_writes.proofs.issuing.store_all.Goals as goal
-use Rattle.engine_writes.proofs.issuing.store_all.Goals.{in-Some, in-default}
+use Rattle.engine_writes.proofs.issuing.store_all.Goals.{in-Some, in_default}
 
 pub loop-place-preserved : goal.loop-place-preserved
 loop-place-preserved g c =
@@ -21,10 +21,10 @@ loop-place-preserved g c =
       | in-Some w ↦
           let here = subst (λ s. StoredSoFar dom values p slots s c.args.memory.now c.loop-place.memory)
           (from_some f end at (slot_of w.in-Some.slot) c.loop-place-test.true (sym w.in-Some.ensures.is)) c.loop-place.invariant in
-          rw w.memory-is (stored_more dom values p slots (slots_from f end (at + 1)) (slot_of w.in-Some.slot) _ _ _ here w.store-one.ensures)
-      | in-default w ↦
+          rw w.memory-is (stored_more dom values p slots (slots_from f end (at + 1)) (slot_of w.in-Some.slot) _ _ _ here w.store_one.ensures)
+      | in_default w ↦
           rw w.memory-is (subst (λ s. StoredSoFar dom values p slots s c.args.memory.now c.loop-place.memory)
-          (from_none f end at c.loop-place-test.true (sym w.in-default.ensures.is)) c.loop-place.invariant)
+          (from_none f end at c.loop-place-test.true (sym w.in_default.ensures.is)) c.loop-place.invariant)
     ]
 
 pub returns : goal.returns

@@ -11,17 +11,17 @@ use Rattle.engine_writes.proofs.issuing.store_one.Goals as goal
 pub returns-in-Some : goal.returns-in-Some
 returns-in-Some g c = λ cells.
     let place : c.in-Some.x ≡ cell c.in-Store.cell.stride c.in-Store.cell.offset (c.args.row.pass - c.args.slot.stage) =
-    c.in-Some.ensures.0 ∙ ap (λ i. cell c.in-Store.cell.stride c.in-Store.cell.offset i) c.saturating-sub-iteration.ensures in
-    ap (λ x. set c.args.memory.now x c.read-source.result) place ∙
+    c.in-Some.ensures.0 ∙ ap (λ i. cell c.in-Store.cell.stride c.in-Store.cell.offset i) c.saturating_sub-iteration.ensures in
+    ap (λ x. set c.args.memory.now x c.read_source.result) place ∙
     store_writes g.D.Domain.operations c.args.values.now c.args.row.pass c.args.slot c.args.memory.now c.in-Store.source c.in-Store.cell c.in-Store.is
-    c.read-source.result c.read-source.ensures cells
+    c.read_source.result c.read_source.ensures cells
 
-pub returns-in-default-find-cell : goal.returns-in-default-find-cell
-returns-in-default-find-cell g c = λ cells.
-    let beyond = subst (λ i. length c.args.memory.now ≤ cell c.in-Store.cell.stride c.in-Store.cell.offset i) c.saturating-sub-iteration.ensures c.in-default-find-cell.ensures in
+pub returns-in_default-find_cell : goal.returns-in_default-find_cell
+returns-in_default-find_cell g c = λ cells.
+    let beyond = subst (λ i. length c.args.memory.now ≤ cell c.in-Store.cell.stride c.in-Store.cell.offset i) c.saturating_sub-iteration.ensures c.in_default-find_cell.ensures in
     let v = source_value g.D.Domain.operations (value_file (nought g.D.Domain.operations) c.args.values.now) (source_of c.in-Store.source) in
     sym (set_past c.args.memory.now (cell c.in-Store.cell.stride c.in-Store.cell.offset (c.args.row.pass - c.args.slot.stage)) v beyond) ∙
     store_writes g.D.Domain.operations c.args.values.now c.args.row.pass c.args.slot c.args.memory.now c.in-Store.source c.in-Store.cell c.in-Store.is v refl cells
 
-pub returns-in-default : goal.returns-in-default
-returns-in-default g c = other_writes g.D.Domain.operations c.args.values.now c.args.row.pass c.args.slot c.args.memory.now c.in-default.not-Store
+pub returns-in_default : goal.returns-in_default
+returns-in_default g c = other_writes g.D.Domain.operations c.args.values.now c.args.row.pass c.args.slot c.args.memory.now c.in_default.not-Store

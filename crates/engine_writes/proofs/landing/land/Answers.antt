@@ -15,8 +15,8 @@ returns g c = λ d pending.
     let all : (r : ℕ) → Done cycle waiting status values c.if-count-lt-LIST.status c.if-count-lt-LIST.values d r =
     elim c.if-count-lt-LIST.branch [
       | then-count-lt-LIST w ↦ rw (w.status-is, w.values-is)
-          (listed_all cycle waiting status values c.args.file dues counts _ _ d pending _ refl w.if-count-lt-LIST.true w.land-listed.ensures)
+          (listed_all cycle waiting status values c.args.file dues counts _ _ d pending _ refl w.if-count-lt-LIST.true w.land_listed.ensures)
       | else-count-lt-LIST w ↦ rw (w.status-is, w.values-is)
-          (below_all cycle waiting status values c.args.file dues counts _ _ d pending w.land-each.ensures)
+          (below_all cycle waiting status values c.args.file dues counts _ _ d pending w.land_each.ensures)
     ] in
     (all, next_pending cycle waiting status values c.args.file dues counts _ _ d (omega arith) pending all)

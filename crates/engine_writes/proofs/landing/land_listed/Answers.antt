@@ -11,10 +11,10 @@ pub loop-i-preserved : goal.loop-i-preserved
 loop-i-preserved g c = λ d.
     let before = c.loop-i.invariant d in
     let r = get_or c.args.dues.now (due_place (c.args.cycle % 8) c.loop-i.i) 0 in (
-      between_still c.args.cycle c.args.waiting.now c.args.status.now c.args.values.now _ _ _ _ r d c.land-one.ensures before.0,
+      between_still c.args.cycle c.args.waiting.now c.args.status.now c.args.values.now _ _ _ _ r d c.land_one.ensures before.0,
       λ i h. elim (cases_eq i c.loop-i.i) [
-        | inl e ↦ rw e (done_here c.args.cycle c.args.waiting.now c.args.status.now c.args.values.now _ _ _ _ r d c.land-one.ensures before.0)
-        | inr z ↦ done_still c.args.cycle c.args.waiting.now c.args.status.now c.args.values.now _ _ _ _ r d c.land-one.ensures before.0 _ (before.1 i (omega arith))
+        | inl e ↦ rw e (done_here c.args.cycle c.args.waiting.now c.args.status.now c.args.values.now _ _ _ _ r d c.land_one.ensures before.0)
+        | inr z ↦ done_still c.args.cycle c.args.waiting.now c.args.status.now c.args.values.now _ _ _ _ r d c.land_one.ensures before.0 _ (before.1 i (omega arith))
       ],
     )
 

@@ -4,7 +4,7 @@ use Rattle.guest_scheme.proofs.asking.still_apart.Goals as goal
 
 pub returns : goal.returns
 returns g c n alive-a alive-b differ =
-    let taken = c.in-ok-turns.ensures in
+    let taken = c.in_ok-turns.ensures in
     let same = c.in-None.ensures.same in
     let s = c.fit.new.self in
     let meaning = g.S.Scheme.meaning in

@@ -12,8 +12,8 @@ loop-j-preserved c =
     let ts = c.args.times.now in (
       length-set c.loop-j.stages c.loop-j.j _ ∙ inv.0,
       length-set c.loop-j.rows c.loop-j.j _ ∙ inv.1,
-      put_more (λ q. get_or ts q 0 / k) c.loop-j.stages c.loop-j.j _ inv.0 (omega arith) (c.stage-and-row-stage.ensures.stage ∙ ap (λ t. t / k) c.from.ensures) inv.2,
-      put_more (λ q. get_or ts q 0 % k) c.loop-j.rows c.loop-j.j _ inv.1 (omega arith) (c.stage-and-row-stage.ensures.row ∙ ap (λ t. t % k) c.from.ensures) inv.3,
+      put_more (λ q. get_or ts q 0 / k) c.loop-j.stages c.loop-j.j _ inv.0 (omega arith) (c.stage_and_row-stage.ensures.stage ∙ ap (λ t. t / k) c.from.ensures) inv.2,
+      put_more (λ q. get_or ts q 0 % k) c.loop-j.rows c.loop-j.j _ inv.1 (omega arith) (c.stage_and_row-stage.ensures.row ∙ ap (λ t. t % k) c.from.ensures) inv.3,
     )
 
 pub returns : goal.returns

@@ -7,16 +7,16 @@ use Rattle.listing.proofs.preparing.variable_numbers.Goals as goal
 pub loop-j-init : goal.loop-j-init
 loop-j-init c = (refl, refl, omega arith, λ q h. absurd (omega arith))
 
-pub overflow-add-next : goal.overflow-add-next
-overflow-add-next c = omega (arith, c.loop-j.invariant.2, c.values-made-next.ensures.bound)
+pub overflow_add-next : goal.overflow_add-next
+overflow_add-next c = omega (arith, c.loop-j.invariant.2, c.values_made-next.ensures.bound)
 
 pub loop-j-preserved : goal.loop-j-preserved
 loop-j-preserved c =
     let inv = c.loop-j.invariant in
     let s = c.args.source.now in (
       length-set c.loop-j.numbers c.loop-j.j _ ∙ inv.0,
-      ap (λ x. x + c.values-made-next.result) inv.1 ∙ number_more s c.loop-j.j c.values-made-next.result _ c.loop-j-test.true c.values-made-next.ensures.value,
-      omega (arith, inv.2, c.values-made-next.ensures.bound),
+      ap (λ x. x + c.values_made-next.result) inv.1 ∙ number_more s c.loop-j.j c.values_made-next.result _ c.loop-j-test.true c.values_made-next.ensures.value,
+      omega (arith, inv.2, c.values_made-next.ensures.bound),
       put_more (variable_number (loop_seen s)) c.loop-j.numbers c.loop-j.j c.loop-j.next inv.0 (omega (arith, c.loop-j-test.true, s.few)) inv.1 inv.3,
     )
 

@@ -20,8 +20,8 @@ slot-requires g c =
       );
     }
 
-pub push-reserved-requires : goal.push-reserved-requires
-push-reserved-requires g c =
+pub push_reserved-requires : goal.push_reserved-requires
+push_reserved-requires g c =
     issuing_room c.args.body.now (g.S.Scheme.meaning c.args.scheme.now).name c.args.place.part c.args.place.written c.args.place.pass c.args.row
     c.args.slots.now c.loop-operation.slots c.loop-operation.operation c.loop-operation.invariant (sym c.if-issues.ensures) c.loop-operation-test.true c.requires
 
@@ -32,9 +32,9 @@ loop-operation-preserved g c =
     let pl = c.args.place in
     elim c.if-issues.branch [
       | then-issues w ↦
-          issuing_yes b name pl.part pl.written pl.pass c.args.row c.args.slots.now c.loop-operation.slots w.push-reserved.new.self c.if-issues.slots w.slot.result
-          c.loop-operation.operation w.slots-is c.loop-operation.invariant (sym w.if-issues.ensures) w.push-reserved.ensures.items w.push-reserved.ensures.len
-          w.push-reserved.ensures.capacity w.slot.ensures
+          issuing_yes b name pl.part pl.written pl.pass c.args.row c.args.slots.now c.loop-operation.slots w.push_reserved.new.self c.if-issues.slots w.slot.result
+          c.loop-operation.operation w.slots-is c.loop-operation.invariant (sym w.if-issues.ensures) w.push_reserved.ensures.items w.push_reserved.ensures.len
+          w.push_reserved.ensures.capacity w.slot.ensures
       | else-issues w ↦
           issuing_no b name pl.part pl.written pl.pass c.args.row c.args.slots.now c.loop-operation.slots c.if-issues.slots c.loop-operation.operation
           w.slots-is c.loop-operation.invariant (sym w.if-issues.ensures)

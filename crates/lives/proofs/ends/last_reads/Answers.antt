@@ -11,8 +11,8 @@ use Rattle.lives.proofs.ends.last_reads.Goals as goal
 pub loop-q-init : goal.loop-q-init
 loop-q-init c = λ v. zeros 32 v ∙ sym (read_none (loop_seen c.args.l.now) (scheduled c.args.interval c.args.times.now) v)
 
-pub note-operation-requires : goal.note-operation-requires
-note-operation-requires c = record {
+pub note_operation-requires : goal.note_operation-requires
+note_operation-requires c = record {
   near = near_at c.args.l.now c.loop-q.q _ c.loop-q-test.true;
   time = c.fits-times c.loop-q.q;
   interval = c.requires;
@@ -21,7 +21,7 @@ note-operation-requires c = record {
 pub loop-q-preserved : goal.loop-q-preserved
 loop-q-preserved c =
     λ v. reads_then (loop_seen c.args.l.now) (scheduled c.args.interval c.args.times.now) v c.loop-q.q _ _ _ (c.loop-q.invariant v)
-    (seen_at c.args.l.now c.loop-q.q _ c.loop-q-test.true) (c.note-operation.ensures v)
+    (seen_at c.args.l.now c.loop-q.q _ c.loop-q-test.true) (c.note_operation.ensures v)
 
 pub returns : goal.returns
 returns c =

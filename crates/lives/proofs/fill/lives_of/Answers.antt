@@ -10,21 +10,21 @@ use Rattle.lives.specs.Schedules.{scheduled, LivesOf}
 use Rattle.lives.proofs.Loops.{count_is, seen_at}
 use Rattle.lives.proofs.Steps.{life_then, no_room, no_push, table_first, table_then, table_skip, table_last}
 use Rattle.lives.proofs.fill.lives_of.Goals as goal
-use Rattle.lives.proofs.fill.lives_of.Goals.{then-makes+in-ok-life+else-not-push, else-makes}
+use Rattle.lives.proofs.fill.lives_of.Goals.{then-makes+in_ok-life+else-not-push, else-makes}
 
 pub loop-j-init : goal.loop-j-init
 loop-j-init c =
-    table_first (loop_seen c.args.l.now) (hardware c.args.timings.now []) (scheduled c.args.interval c.args.times.now) _ c.in-ok-lives.ensures
+    table_first (loop_seen c.args.l.now) (hardware c.args.timings.now []) (scheduled c.args.interval c.args.times.now) _ c.in_ok-lives.ensures
 
-pub returns-in-err-life : goal.returns-in-err-life
-returns-in-err-life c =
+pub returns-in_err-life : goal.returns-in_err-life
+returns-in_err-life c =
     let ops = loop_seen c.args.l.now in
     let us = c.args.timings.now in
     let w : Schedule = scheduled c.args.interval c.args.times.now in
     let j = c.loop-j.j in
     let m : makes (op ops j) ≡ true = sym (ap makes (seen_at c.args.l.now j _ c.loop-j-test.true)) ∙ (sym c.makes.ensures ∙ c.if-makes.true) in
-    subst (LivesOf ops us w) (sym c.from-residual-in-err-life.ensures)
-    (λ units. no_room ops us w j c.latency_of.result units (omega (arith, count_is c.args.l.now)) m c.latency_of.ensures c.in-err-life.ensures)
+    subst (LivesOf ops us w) (sym c.from_residual-in_err-life.ensures)
+    (λ units. no_room ops us w j c.latency_of.result units (omega (arith, count_is c.args.l.now)) m c.latency_of.ensures c.in_err-life.ensures)
 
 pub returns-then-not-push : goal.returns-then-not-push
 returns-then-not-push c =
@@ -33,8 +33,8 @@ returns-then-not-push c =
     let w : Schedule = scheduled c.args.interval c.args.times.now in
     let j = c.loop-j.j in
     let m : makes (op ops j) ≡ true = sym (ap makes (seen_at c.args.l.now j _ c.loop-j-test.true)) ∙ (sym c.makes.ensures ∙ c.if-makes.true) in
-    let is = life_then ops us w j c.latency_of.result _ c.in-ok-life.life c.latency_of.ensures (c.last-reads-reads.ensures j) c.in-ok-life.ensures in
-    λ units. no_push ops us w j c.in-ok-life.life (table c.loop-j.lives) units (omega (arith, count_is c.args.l.now)) m is c.loop-j.invariant c.if-not-push.ensures.0
+    let is = life_then ops us w j c.latency_of.result _ c.in_ok-life.life c.latency_of.ensures (c.last_reads-reads.ensures j) c.in_ok-life.ensures in
+    λ units. no_push ops us w j c.in_ok-life.life (table c.loop-j.lives) units (omega (arith, count_is c.args.l.now)) m is c.loop-j.invariant c.if-not-push.ensures.0
 
 pub loop-j-preserved : goal.loop-j-preserved
 loop-j-preserved c =
@@ -44,10 +44,10 @@ loop-j-preserved c =
     let j = c.loop-j.j in
     let m : makes (op ops j) ≡ c.makes.result = sym (ap makes (seen_at c.args.l.now j _ c.loop-j-test.true)) ∙ sym c.makes.ensures in
     elim c.if-makes.branch [
-      | then-makes+in-ok-life+else-not-push x ↦
-          let is = life_then ops us w j x.latency_of.result _ x.in-ok-life.life x.latency_of.ensures (c.last-reads-reads.ensures j) x.in-ok-life.ensures in
+      | then-makes+in_ok-life+else-not-push x ↦
+          let is = life_then ops us w j x.latency_of.result _ x.in_ok-life.life x.latency_of.ensures (c.last_reads-reads.ensures j) x.in_ok-life.ensures in
           ap table x.lives-is ∙
-          table_then ops (hardware us []) w j (table c.loop-j.lives) _ x.in-ok-life.life c.loop-j.invariant x.if-not-push.ensures.2 is (m ∙ x.if-makes.true)
+          table_then ops (hardware us []) w j (table c.loop-j.lives) _ x.in_ok-life.life c.loop-j.invariant x.if-not-push.ensures.2 is (m ∙ x.if-makes.true)
       | else-makes x ↦ ap table x.lives-is ∙ table_skip ops (hardware us []) w j (table c.loop-j.lives) c.loop-j.invariant (m ∙ x.if-makes.false)
     ]
 

@@ -13,8 +13,8 @@ pub loop-j-preserved : goal.loop-j-preserved
 loop-j-preserved c =
     let more = stages_more (scheduled c.args.interval c.args.times.now) c.loop-j.j in
     elim c.if-stages-stage.branch [
-      | then-stages-stage w ↦ omega (arith, more, w.stages-is, w.if-stages-stage.true, c.stage-and-row-stage.ensures.stage, c.loop-j.invariant)
-      | else-stages-stage w ↦ omega (arith, more, w.stages-is, w.if-stages-stage.false, c.stage-and-row-stage.ensures.stage, c.loop-j.invariant)
+      | then-stages-stage w ↦ omega (arith, more, w.stages-is, w.if-stages-stage.true, c.stage_and_row-stage.ensures.stage, c.loop-j.invariant)
+      | else-stages-stage w ↦ omega (arith, more, w.stages-is, w.if-stages-stage.false, c.stage_and_row-stage.ensures.stage, c.loop-j.invariant)
     ]
 
 pub returns : goal.returns

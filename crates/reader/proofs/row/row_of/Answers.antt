@@ -5,12 +5,12 @@ use Rattle.reader.proofs.row.row_of.Goals as goal
 pub returns : goal.returns
 returns c =
     let all = tokens (record { number = c.args.number; bytes = c.args.line.now }) in
-    let e0 = c.next-token-t0.ensures in
-    let e1 = c.next-token-t1.ensures in
-    let e2 = c.next-token-t2.ensures in
-    let e3 = c.next-token-t3.ensures in
-    let e4 = c.next-token-t4.ensures in
-    let e5 = c.next-token-t5.ensures in
+    let e0 = c.next_token-t0.ensures in
+    let e1 = c.next_token-t1.ensures in
+    let e2 = c.next_token-t2.ensures in
+    let e3 = c.next_token-t3.ensures in
+    let e4 = c.next_token-t4.ensures in
+    let e5 = c.next_token-t5.ensures in
     let a0 = along_start all _ _ _ c.new-reader.ensures in
     let a1 = along_more all 0 _ _ _ a0 _ _ e0.token e0.finished _ _ e0.line e0.text in
     let a2 = along_more all 1 _ _ _ a1 _ _ e1.token e1.finished _ _ e1.line e1.text in

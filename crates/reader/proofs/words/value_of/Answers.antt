@@ -4,8 +4,8 @@ use Rattle.model.specs.Shapes.{digit}
 use Rattle.model.proofs.Scans.{every_here, digit_bounds, value_more, value_end, pow_more, number_parts}
 use Rattle.reader.proofs.words.value_of.Goals as goal
 
-pub overflow-sub-n : goal.overflow-sub-n
-overflow-sub-n c =
+pub overflow_sub-n : goal.overflow_sub-n
+overflow_sub-n c =
     let inv = c.loop-b.invariant in
     let d = digit_bounds (get_or c.args.s.now c.loop-b.b-index 0) (every_here digit c.args.s.now c.loop-b.b-index c.loop-b-test.true inv.1).0 in
     omega arith

@@ -2,10 +2,10 @@ use Rattle.dependence.specs.Loops.{loop_seen}
 use Rattle.schedule.proofs.Attempts.{no_error, found_is, room_for, when_failed, when_deep, when_refused, when_taken}
 use Rattle.schedule.proofs.attempt.attempt.Goals as goal
 
-pub returns-in-default : goal.returns-in-default
-returns-in-default g c =
+pub returns-in_default : goal.returns-in_default
+returns-in_default g c =
     absurd (no_error (loop_seen c.args.l.now) c.args.edges.now c.args.timings.now c.args.units.now c.args.interval c.requires.ready c.requires.below
-    c.in-default.field-0 c.in-default.ensures)
+    c.in_default.field-0 c.in_default.ensures)
 
 pub returns-in-Failed : goal.returns-in-Failed
 returns-in-Failed g c =
@@ -21,14 +21,14 @@ returns-then-stages-gt-STAGES g c =
     let k = c.args.interval in
     let ready = c.requires.ready in
     let below = c.requires.below in
-    when_deep ops es us units k ready below g.S.Scheme.meaning c.args.scheme.now c.in-Found.steps c.times-of-times.result c.stages-of-stages.result
-    (found_is ops es us units k ready below c.in-Found.table c.in-Found.steps c.times-of-times.result c.in-Ok.outcome c.in-Ok.ensures c.in-Found.is c.times-of-times.ensures)
-    c.stages-of-stages.ensures c.if-stages-gt-STAGES.true
+    when_deep ops es us units k ready below g.S.Scheme.meaning c.args.scheme.now c.in-Found.steps c.times_of-times.result c.stages_of-stages.result
+    (found_is ops es us units k ready below c.in-Found.table c.in-Found.steps c.times_of-times.result c.in-Ok.outcome c.in-Ok.ensures c.in-Found.is c.times_of-times.ensures)
+    c.stages_of-stages.ensures c.if-stages-gt-STAGES.true
 
 pub offer-requires : goal.offer-requires
 offer-requires g c =
     room_for (loop_seen c.args.l.now) c.args.edges.now c.args.timings.now c.args.units.now c.args.interval c.requires.ready c.requires.below
-    c.times-of-times.result c.stages-of-stages.result c.stages-of-stages.ensures c.if-stages-gt-STAGES.false
+    c.times_of-times.result c.stages_of-stages.result c.stages_of-stages.ensures c.if-stages-gt-STAGES.false
 
 pub returns-in-None : goal.returns-in-None
 returns-in-None g c =
@@ -39,10 +39,10 @@ returns-in-None g c =
     let k = c.args.interval in
     let ready = c.requires.ready in
     let below = c.requires.below in
-    when_refused ops es us units k ready below g.S.Scheme.meaning c.args.scheme.now g.S.Scheme.place c.offer.new.scheme c.in-Found.steps c.times-of-times.result
-    c.stages-of-stages.result
-    (found_is ops es us units k ready below c.in-Found.table c.in-Found.steps c.times-of-times.result c.in-Ok.outcome c.in-Ok.ensures c.in-Found.is c.times-of-times.ensures)
-    c.stages-of-stages.ensures c.if-stages-gt-STAGES.false (c.in-None.ensures units)
+    when_refused ops es us units k ready below g.S.Scheme.meaning c.args.scheme.now g.S.Scheme.place c.offer.new.scheme c.in-Found.steps c.times_of-times.result
+    c.stages_of-stages.result
+    (found_is ops es us units k ready below c.in-Found.table c.in-Found.steps c.times_of-times.result c.in-Ok.outcome c.in-Ok.ensures c.in-Found.is c.times_of-times.ensures)
+    c.stages_of-stages.ensures c.if-stages-gt-STAGES.false (c.in-None.ensures units)
 
 pub returns-in-Some : goal.returns-in-Some
 returns-in-Some g c =
@@ -53,7 +53,7 @@ returns-in-Some g c =
     let k = c.args.interval in
     let ready = c.requires.ready in
     let below = c.requires.below in
-    when_taken ops es us units k ready below g.S.Scheme.meaning c.args.scheme.now g.S.Scheme.place c.offer.new.scheme c.in-Found.steps c.times-of-times.result
-    c.stages-of-stages.result c.in-Some.turns
-    (found_is ops es us units k ready below c.in-Found.table c.in-Found.steps c.times-of-times.result c.in-Ok.outcome c.in-Ok.ensures c.in-Found.is c.times-of-times.ensures)
-    c.stages-of-stages.ensures c.if-stages-gt-STAGES.false (c.in-Some.ensures units)
+    when_taken ops es us units k ready below g.S.Scheme.meaning c.args.scheme.now g.S.Scheme.place c.offer.new.scheme c.in-Found.steps c.times_of-times.result
+    c.stages_of-stages.result c.in-Some.turns
+    (found_is ops es us units k ready below c.in-Found.table c.in-Found.steps c.times_of-times.result c.in-Ok.outcome c.in-Ok.ensures c.in-Found.is c.times_of-times.ensures)
+    c.stages_of-stages.ensures c.if-stages-gt-STAGES.false (c.in-Some.ensures units)

@@ -10,7 +10,7 @@ loop-j-init c = (refl, λ q h. absurd (omega arith))
 pub loop-j-preserved : goal.loop-j-preserved
 loop-j-preserved c =
     let inv = c.loop-j.invariant in
-    let here = c.unwrap-or.ensures ∙ ap (λ o. unwrap_or o 0) c.at.ensures in (
+    let here = c.unwrap_or.ensures ∙ ap (λ o. unwrap_or o 0) c.at.ensures in (
       length-set c.loop-j.times c.loop-j.j _ ∙ inv.0,
       λ q h. elim (cases_eq q c.loop-j.j) [
         | inl e ↦ rw e (get_or-set_same c.loop-j.times c.loop-j.j _ 0 (omega (arith, inv.0)) ∙ here)

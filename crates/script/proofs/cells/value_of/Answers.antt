@@ -4,21 +4,21 @@ use Rattle.model.specs.Shapes.{digit}
 use Rattle.model.proofs.Scans.{every_here, digit_bounds, value_more, value_end, pow_more}
 use Rattle.script.proofs.cells.value_of.Goals as goal
 
-pub overflow-sub-n : goal.overflow-sub-n
-overflow-sub-n c =
+pub overflow_sub-n : goal.overflow_sub-n
+overflow_sub-n c =
     let inv = c.loop-b.invariant in
     let d = digit_bounds (get_or c.args.s.now c.loop-b.b-index 0) (every_here digit c.args.s.now c.loop-b.b-index c.loop-b-test.true inv.1).0 in
     omega arith
 
-pub overflow-mul-n : goal.overflow-mul-n
-overflow-mul-n c =
+pub overflow_mul-n : goal.overflow_mul-n
+overflow_mul-n c =
     let inv = c.loop-b.invariant in
     let few : c.loop-b.b-index ≤ 10 = omega arith in
     let p : ◌^◌ 10 c.loop-b.b-index ≤ ◌^◌ 10 10 = pow-le-pow_right (let z : 0 < 10 = omega arith in z) few in
     omega (arith, inv.3)
 
-pub overflow-add-n : goal.overflow-add-n
-overflow-add-n c =
+pub overflow_add-n : goal.overflow_add-n
+overflow_add-n c =
     let inv = c.loop-b.invariant in
     let few : c.loop-b.b-index ≤ 10 = omega arith in
     let p : ◌^◌ 10 c.loop-b.b-index ≤ ◌^◌ 10 10 = pow-le-pow_right (let z : 0 < 10 = omega arith in z) few in

@@ -8,21 +8,21 @@ use Rattle.script.proofs.escapes.unescape.Goals.{in-Turn, in-Put}
 
 pub loop-b-init : goal.loop-b-init
 loop-b-init c =
-    let e = sym c.in-ok-total.ensures in
+    let e = sym c.in_ok-total.ensures in
     (omega arith, e, plus_zero (length_in (unescaped c.args.body.now)) ∙ e, behind_none (unescaped c.args.body.now), refl)
 
 pub bounds-out-n : goal.bounds-out-n
 bounds-out-n c =
     let inv = c.loop-b.invariant in
-    let more : plus (c.loop-b.n + 1) (length_in (spelled Plain (drop (c.loop-b.b-index + 1) c.args.body.now))) ≡ Some c.in-ok-total.total =
+    let more : plus (c.loop-b.n + 1) (length_in (spelled Plain (drop (c.loop-b.b-index + 1) c.args.body.now))) ≡ Some c.in_ok-total.total =
     written c.args.body.now c.loop-b.b-index c.loop-b.after c.loop-b-test.true c.loop-b.n (c.loop-b.n + 1) Plain _ inv.2 c.in-Put.x c.in-Put.ensures refl refl in
-    let le : c.loop-b.n + 1 ≤ c.in-ok-total.total = plus_le _ _ _ more in
+    let le : c.loop-b.n + 1 ≤ c.in_ok-total.total = plus_le _ _ _ more in
     omega (arith, inv.0)
 
 pub returns-in-Wrong : goal.returns-in-Wrong
 returns-in-Wrong c =
     let inv = c.loop-b.invariant in
-    let gone : None ≡ Some c.in-ok-total.total =
+    let gone : None ≡ Some c.in_ok-total.total =
     sym (ap (λ o. plus c.loop-b.n (length_in o)) (at_wrong c.args.body.now c.loop-b.b-index c.loop-b.after c.loop-b-test.true c.in-Wrong.ensures)) ∙ inv.2 in
     let z : ◌≡◌ {A = ℕ} 0 1 = cc in
     absurd (omega arith)
@@ -37,7 +37,7 @@ loop-b-preserved c =
     let n = c.loop-b.n in
     let n' = c.match-effect.n in
     let a' = c.match-effect.after in
-    let room : c.in-ok-total.total ≤ length c.match-effect.out = omega (arith, inv.0, c.match-effect.auto.out) in
+    let room : c.in_ok-total.total ≤ length c.match-effect.out = omega (arith, inv.0, c.match-effect.auto.out) in
     elim c.match-effect.branch [
       | in-Turn w ↦ (
         room,
@@ -51,7 +51,7 @@ loop-b-preserved c =
         inv.1,
         written s i a h n n' a' _ inv.2 w.in-Put.x w.in-Put.ensures w.after-is w.n-is,
         stored s i a h n n' a' c.loop-b.out c.match-effect.out _ inv.3 w.in-Put.x w.in-Put.ensures w.after-is w.n-is w.out-is
-            (let le : n + 1 ≤ c.in-ok-total.total = plus_le _ _ _ (written s i a h n (n + 1) Plain _ inv.2 w.in-Put.x w.in-Put.ensures refl refl) in omega (arith, inv.0)),
+            (let le : n + 1 ≤ c.in_ok-total.total = plus_le _ _ _ (written s i a h n (n + 1) Plain _ inv.2 w.in-Put.x w.in-Put.ensures refl refl) in omega (arith, inv.0)),
         behind_stored n n' w.in-Put.x c.loop-b.out c.match-effect.out c.args.out.now w.n-is w.out-is inv.4,
       )
     ]
@@ -61,7 +61,7 @@ returns c =
     let inv = c.loop-b.invariant in
     let a = c.loop-b.after in
     let over = at_end c.args.body.now c.loop-b.b-index a c.loop-b-test.false in
-    let f = finished c.loop-b.n c.in-ok-total.total c.loop-b.out c.args.out.now a (unescaped c.args.body.now) c.loop-b.auto.out inv.0
+    let f = finished c.loop-b.n c.in_ok-total.total c.loop-b.out c.args.out.now a (unescaped c.args.body.now) c.loop-b.auto.out inv.0
     (sym (ap (λ o. plus c.loop-b.n (length_in o)) over) ∙ inv.2)
     (sym (ap (behind (take c.loop-b.n c.loop-b.out)) over) ∙ inv.3) inv.4 in
     record { value = f.0; after = f.1 }

@@ -11,4 +11,4 @@ pub returns-else-line-eq0 : goal.returns-else-line-eq0
 unfolding is_blank
 returns-else-line-eq0 c =
     let f : eqb (length c.args.line.now) 0 ≡ false = ne_eqb _ _ c.if-line-eq0.false in
-    ap (λ x. eqb x 35) c.byte-at.ensures ∙ sym (ap (λ b. b || eqb (get_or c.args.line.now 0 0) 35) f)
+    ap (λ x. eqb x 35) c.byte_at.ensures ∙ sym (ap (λ b. b || eqb (get_or c.args.line.now 0 0) 35) f)

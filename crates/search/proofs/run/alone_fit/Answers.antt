@@ -5,16 +5,16 @@ use Rattle.model.specs.Limits.{hardware, timing}
 use Rattle.graph_laws.proofs.Top.{timing_at, units_at}
 use Rattle.search.proofs.run.alone_fit.Goals as goal
 
-pub offset-bounds-units-timing : goal.offset-bounds-units-timing
-offset-bounds-units-timing c =
+pub offset_bounds-units-timing : goal.offset_bounds-units-timing
+offset_bounds-units-timing c =
     let at = (timing_at c.args.timings.now c.args.units.now c.requires.fits c.loop-j.j c.loop-j-test.true).class in
     omega (arith, at, c.requires.fits.classes)
 
 pub bounds-units-timing : goal.bounds-units-timing
 bounds-units-timing c = (timing_at c.args.timings.now c.args.units.now c.requires.fits c.loop-j.j c.loop-j-test.true).class
 
-pub overflow-mul-interval : goal.overflow-mul-interval
-overflow-mul-interval c =
+pub overflow_mul-interval : goal.overflow_mul-interval
+overflow_mul-interval c =
     let at = (timing_at c.args.timings.now c.args.units.now c.requires.fits c.loop-j.j c.loop-j-test.true).class in
     omega (arith, mul-le c.args.interval _ 256 8 c.requires.interval (units_at c.args.timings.now c.args.units.now c.requires.fits (timing c.args.timings.now c.loop-j.j).class at).1)
 

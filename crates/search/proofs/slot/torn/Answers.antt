@@ -7,6 +7,6 @@ use Rattle.search.proofs.slot.torn.Goals as goal
 
 pub loop-q-preserved : goal.loop-q-preserved
 loop-q-preserved c = (
-  marks_more (torn_by (weights_of c.args.weights.now) (times_of c.args.times.now) c.args.op) c.loop-q.marks c.loop-q.q c.is-torn.result (search rules) c.is-torn.ensures c.loop-q.invariant.0,
+  marks_more (torn_by (weights_of c.args.weights.now) (times_of c.args.times.now) c.args.op) c.loop-q.marks c.loop-q.q c.is_torn.result (search rules) c.is_torn.ensures c.loop-q.invariant.0,
   search rules,
 )

@@ -11,26 +11,26 @@ use Rattle.texts.specs.Seen.{answered}
 use Rattle.statements.proofs.LoopSteps.{form_3, form_4, form_6}
 use Rattle.statements.proofs.loop_text.form_line.Goals as goal
 
-pub returns-in-err-action : goal.returns-in-err-action
-returns-in-err-action c =
-    let p = err_from_is_err_and c.from-residual.result c.from-residual.ensures.1 in
+pub returns-in_err-action : goal.returns-in_err-action
+returns-in_err-action c =
+    let p = err_from_is_err_and c.from_residual.result c.from_residual.ensures.1 in
     let m = c.args.m.now in
     let row = c.args.row in
     ap (λ r. told r (all_seen (take m.count m.items))) p.1 ∙ ap (λ f. Err (refusal f)) p.2
     ∙ form_3 (all_seen (take m.count m.items)) c.args.number c.args.code (or_none (shown row.t0))
-    (or_none (shown row.t1) ∷ or_none (shown row.t2) ∷ or_none (shown row.t3) ∷ or_none (shown row.t4) ∷ []) _ c.in-err-action.ensures
+    (or_none (shown row.t1) ∷ or_none (shown row.t2) ∷ or_none (shown row.t3) ∷ or_none (shown row.t4) ∷ []) _ c.in_err-action.ensures
 
-pub returns-in-err-defines : goal.returns-in-err-defines
-returns-in-err-defines c =
-    let p = err_from_is_err_and c.from-residual-in-err-defines.result c.from-residual-in-err-defines.ensures.1 in
+pub returns-in_err-defines : goal.returns-in_err-defines
+returns-in_err-defines c =
+    let p = err_from_is_err_and c.from_residual-in_err-defines.result c.from_residual-in_err-defines.ensures.1 in
     let m = c.args.m.now in
     let row = c.args.row in
     let whole : m.count - 0 ≡ m.count = omega arith in
     let t = or_none (shown row.t0) in
     ap (λ r. told r (all_seen (take m.count m.items))) p.1 ∙ ap (λ f. Err (refusal f)) p.2
     ∙ form_4 (all_seen (take m.count m.items)) c.args.number c.args.code t
-    (or_none (shown row.t1) ∷ or_none (shown row.t2) ∷ or_none (shown row.t3) ∷ or_none (shown row.t4) ∷ []) _ c.in-ok-action.ensures _
-    (c.in-err-defines.ensures
+    (or_none (shown row.t1) ∷ or_none (shown row.t2) ∷ or_none (shown row.t3) ∷ or_none (shown row.t4) ∷ []) _ c.in_ok-action.ensures _
+    (c.in_err-defines.ensures
     ∙ ap (λ k. unless (no_or 4 (named_by (all_seen (take k m.items)) (Some c.args.code) (t ∷ [])) None) (Ok (name_in (defined_by c.args.code (t ∷ []))))) whole)
 
 pub returns : goal.returns
@@ -41,6 +41,6 @@ returns c =
     let t = or_none (shown row.t0) in
     c.push.ensures
     ∙ form_6 (all_seen (take m.count m.items)) c.args.number c.args.code t
-    (or_none (shown row.t1) ∷ or_none (shown row.t2) ∷ or_none (shown row.t3) ∷ or_none (shown row.t4) ∷ []) _ c.in-ok-action.ensures _
-    (c.in-ok-defines.ensures
+    (or_none (shown row.t1) ∷ or_none (shown row.t2) ∷ or_none (shown row.t3) ∷ or_none (shown row.t4) ∷ []) _ c.in_ok-action.ensures _
+    (c.in_ok-defines.ensures
     ∙ ap (λ k. unless (no_or 4 (named_by (all_seen (take k m.items)) (Some c.args.code) (t ∷ [])) None) (Ok (name_in (defined_by c.args.code (t ∷ []))))) whole)

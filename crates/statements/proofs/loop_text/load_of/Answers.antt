@@ -9,8 +9,8 @@ use Rattle.texts.specs.Seen.{answered}
 use Rattle.statements.proofs.InRange.{stop}
 use Rattle.statements.proofs.loop_text.load_of.Goals as goal
 
-pub returns-in-err-cell : goal.returns-in-err-cell
-returns-in-err-cell c =
-    let p = err_from_is_err_and c.from-residual.result c.from-residual.ensures.1 in
+pub returns-in_err-cell : goal.returns-in_err-cell
+returns-in_err-cell c =
+    let p = err_from_is_err_and c.from_residual.result c.from_residual.ensures.1 in
     ap (answered action_seen) p.1 ∙ ap (λ f. Err (refusal f)) p.2
-    ∙ stop _ _ [] _ (a_stride (or_none (shown c.args.stride)) ∷ an_offset (or_none (shown c.args.offset)) ∷ []) c.in-err-cell.ensures
+    ∙ stop _ _ [] _ (a_stride (or_none (shown c.args.stride)) ∷ an_offset (or_none (shown c.args.offset)) ∷ []) c.in_err-cell.ensures

@@ -8,28 +8,28 @@ returns-then-n-ge32 c =
     let long : length m.items ≡ 32 = omega arith in
     full m.items m.count m.in_memory _ _ c.args.s (omega arith) m.counted refl refl c.if-n-ge32.true
 
-pub overflow-add-touches : goal.overflow-add-touches
-overflow-add-touches c =
+pub overflow_add-touches : goal.overflow_add-touches
+overflow_add-touches c =
     let m = c.args.m.now in
     let long : length m.items ≡ 32 = omega arith in
-    let r = room m.items m.count m.in_memory c.from.result c.in-memory.result c.args.s (omega arith) m.counted c.from.ensures c.in-memory.ensures in
+    let r = room m.items m.count m.in_memory c.from.result c.in_memory.result c.args.s (omega arith) m.counted c.from.ensures c.in_memory.ensures in
     omega (arith, r.0, r.1)
 
 pub returns-then-touches-gt16 : goal.returns-then-touches-gt16
 returns-then-touches-gt16 c =
     let m = c.args.m.now in
     let long : length m.items ≡ 32 = omega arith in
-    too_many m.items m.count m.in_memory c.from.result c.in-memory.result c.args.s (omega arith) m.counted c.from.ensures c.in-memory.ensures c.if-n-ge32.false c.if-touches-gt16.true
+    too_many m.items m.count m.in_memory c.from.result c.in_memory.result c.args.s (omega arith) m.counted c.from.ensures c.in_memory.ensures c.if-n-ge32.false c.if-touches-gt16.true
 
-pub invariant-of-m : goal.invariant-of-m
-invariant-of-m c =
+pub invariant_of-m : goal.invariant_of-m
+invariant_of-m c =
     let m = c.args.m.now in
     let long : length m.items ≡ 32 = omega arith in
-    let counted = counts_on m.items m.count m.in_memory c.from.result c.in-memory.result c.args.s (omega arith) m.counted c.from.ensures c.in-memory.ensures c.if-n-ge32.false (omega (arith, c.if-n-ge32.false)) in
+    let counted = counts_on m.items m.count m.in_memory c.from.result c.in_memory.result c.args.s (omega arith) m.counted c.from.ensures c.in_memory.ensures c.if-n-ge32.false (omega (arith, c.if-n-ge32.false)) in
     (length-set m.items m.count c.args.s ∙ long, (omega (arith, c.if-n-ge32.false), (omega (arith, c.if-touches-gt16.false), (counted, tt))))
 
 pub returns : goal.returns
 returns c =
     let m = c.args.m.now in
     let long : length m.items ≡ 32 = omega arith in
-    pushed m.items m.count m.in_memory c.from.result c.in-memory.result c.args.s (omega arith) m.counted c.from.ensures c.in-memory.ensures c.if-n-ge32.false (omega (arith, c.if-n-ge32.false)) c.if-touches-gt16.false
+    pushed m.items m.count m.in_memory c.from.result c.in_memory.result c.args.s (omega arith) m.counted c.from.ensures c.in_memory.ensures c.if-n-ge32.false (omega (arith, c.if-n-ge32.false)) c.if-touches-gt16.false

@@ -9,16 +9,16 @@ use Rattle.texts.specs.Seen.{answered}
 use Rattle.statements.proofs.InRange.{stop, pass}
 use Rattle.statements.proofs.loop_text.store_of.Goals as goal
 
-pub returns-in-err-value : goal.returns-in-err-value
-returns-in-err-value c =
-    let p = err_from_is_err_and c.from-residual.result c.from-residual.ensures.1 in
+pub returns-in_err-value : goal.returns-in_err-value
+returns-in_err-value c =
+    let p = err_from_is_err_and c.from_residual.result c.from_residual.ensures.1 in
     ap (answered action_seen) p.1 ∙ ap (λ f. Err (refusal f)) p.2
-    ∙ stop _ _ (a_stride (or_none (shown c.args.stride)) ∷ an_offset (or_none (shown c.args.offset)) ∷ []) _ (operand_check (or_none (shown c.args.value)) ∷ []) c.in-err-value.ensures
+    ∙ stop _ _ (a_stride (or_none (shown c.args.stride)) ∷ an_offset (or_none (shown c.args.offset)) ∷ []) _ (operand_check (or_none (shown c.args.value)) ∷ []) c.in_err-value.ensures
 
-pub returns-in-err-cell : goal.returns-in-err-cell
-returns-in-err-cell c =
-    let p = err_from_is_err_and c.from-residual-in-err-cell.result c.from-residual-in-err-cell.ensures.1 in
+pub returns-in_err-cell : goal.returns-in_err-cell
+returns-in_err-cell c =
+    let p = err_from_is_err_and c.from_residual-in_err-cell.result c.from_residual-in_err-cell.ensures.1 in
     let cell = a_stride (or_none (shown c.args.stride)) ∷ an_offset (or_none (shown c.args.offset)) ∷ [] in
     ap (answered action_seen) p.1 ∙ ap (λ f. Err (refusal f)) p.2
-    ∙ stop _ _ [] _ cell c.in-err-cell.ensures
-    ∙ sym (pass _ _ cell _ (operand_check (or_none (shown c.args.value)) ∷ []) c.in-ok-value.ensures)
+    ∙ stop _ _ [] _ cell c.in_err-cell.ensures
+    ∙ sym (pass _ _ cell _ (operand_check (or_none (shown c.args.value)) ∷ []) c.in_ok-value.ensures)

@@ -7,18 +7,18 @@ use Rattle.statements.proofs.operands.written_of.Goals as goal
 pub new-requires : goal.new-requires
 new-requires c = name_short _ (word_token c.args.t c.in-Word.p c.requires.fit c.in-Word.is)
 
-pub value-of-requires : goal.value-of-requires
-value-of-requires c = number_token c.args.t c.in-Number.p c.requires.fit c.in-Number.is
+pub value_of-requires : goal.value_of-requires
+value_of-requires c = number_token c.args.t c.in-Number.p c.requires.fit c.in-Number.is
 
 pub new-requires-in-Operand : goal.new-requires-in-Operand
 new-requires-in-Operand c =
-    name_part c.args.t c.in-Operand.p c.requires.fit c.in-Operand.is c.byte-at.result c.byte-at.ensures c.if-byte-at-eq45.false _ c.name-of.ensures
+    name_part c.args.t c.in-Operand.p c.requires.fit c.in-Operand.is c.byte_at.result c.byte_at.ensures c.if-byte_at-eq45.false _ c.name_of.ensures
 
-pub value-of-requires-in-Operand : goal.value-of-requires-in-Operand
-value-of-requires-in-Operand c =
-    distance_part c.args.t c.in-Operand.p c.requires.fit c.in-Operand.is c.byte-at.result c.byte-at.ensures c.if-byte-at-eq45.false _ c.after-at.ensures
+pub value_of-requires-in-Operand : goal.value_of-requires-in-Operand
+value_of-requires-in-Operand c =
+    distance_part c.args.t c.in-Operand.p c.requires.fit c.in-Operand.is c.byte_at.result c.byte_at.ensures c.if-byte_at-eq45.false _ c.after_at.ensures
 
-pub returns-else-byte-at-eq45 : goal.returns-else-byte-at-eq45
-returns-else-byte-at-eq45 c =
-    written_name c.args.t c.in-Operand.p c.requires.fit c.in-Operand.is c.byte-at.result c.byte-at.ensures c.if-byte-at-eq45.false _ _
-    (c.new-in-Operand.ensures ∙ c.name-of.ensures) (c.value-of-in-Operand.ensures.value ∙ ap value c.after-at.ensures)
+pub returns-else-byte_at-eq45 : goal.returns-else-byte_at-eq45
+returns-else-byte_at-eq45 c =
+    written_name c.args.t c.in-Operand.p c.requires.fit c.in-Operand.is c.byte_at.result c.byte_at.ensures c.if-byte_at-eq45.false _ _
+    (c.new-in-Operand.ensures ∙ c.name_of.ensures) (c.value_of-in-Operand.ensures.value ∙ ap value c.after_at.ensures)

@@ -6,6 +6,6 @@ use Rattle.texts.proofs.machine_text.has_class.Goals as goal
 
 pub returns : goal.returns
 returns c =
-    ap (λ k. ltb k (length c.args.classes.now)) c.class-at.ensures
+    ap (λ k. ltb k (length c.args.classes.now)) c.class_at.ensures
     ∙ ap (ltb _) (sym (length-map c.args.classes.now class_seen))
     ∙ sym (is_class (classes_seen c.args.classes.now) c.args.word.now)

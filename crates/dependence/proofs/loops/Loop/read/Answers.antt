@@ -15,40 +15,40 @@ use Rattle.dependence.specs.Known.{uses_known, refusal}
 use Rattle.dependence.proofs.Split.{refused_before, then_seven, seven, same_fault, by_seven, passed_seven}
 use Rattle.dependence.proofs.loops.Loop.read.Goals as goal
 
-pub returns-in-err-statements : goal.returns-in-err-statements
-returns-in-err-statements c =
-    let p = err_from_is_err_and c.from-residual.result c.from-residual.ensures.1 in
+pub returns-in_err-statements : goal.returns-in_err-statements
+returns-in_err-statements c =
+    let p = err_from_is_err_and c.from_residual.result c.from_residual.ensures.1 in
     let text = c.args.text.now in
-    ap loop_answered p.1 ∙ ap (λ f. Err (fault f)) p.2 ∙ ap Err (same_fault c.in-err-statements.field-0.0)
-    ∙ sym (ap (λ r. on_err text_fault (on_ok loop_of r)) (refused_before text _ c.in-err-statements.ensures))
+    ap loop_answered p.1 ∙ ap (λ f. Err (fault f)) p.2 ∙ ap Err (same_fault c.in_err-statements.field-0.0)
+    ∙ sym (ap (λ r. on_err text_fault (on_ok loop_of r)) (refused_before text _ c.in_err-statements.ensures))
 
-pub returns-in-err-check-uses : goal.returns-in-err-check-uses
-returns-in-err-check-uses c =
-    let p = err_from_is_err_and c.from-residual-in-err-check-uses.result c.from-residual-in-err-check-uses.ensures.1 in
+pub returns-in_err-check_uses : goal.returns-in_err-check_uses
+returns-in_err-check_uses c =
+    let p = err_from_is_err_and c.from_residual-in_err-check_uses.result c.from_residual-in_err-check_uses.ensures.1 in
     let text = c.args.text.now in
-    let s = c.in-ok-statements.statements in
+    let s = c.in_ok-statements.statements in
     let whole : s.count - 0 ≡ s.count = omega arith in
     ap loop_answered p.1 ∙ ap (λ f. Err (fault f)) p.2
-    ∙ by_seven (statements_seen s) c.in-err-check-uses.field-0.0
-    (c.in-err-check-uses.ensures ∙ ap (λ k. no_or 7 (uses_known (all_seen (take k s.items)) (uses_of (all_seen (take k s.items)))) None) whole)
-    ∙ sym (ap (λ r. on_err text_fault (on_ok loop_of r)) (then_seven text (statements_seen s) c.in-ok-statements.ensures))
+    ∙ by_seven (statements_seen s) c.in_err-check_uses.field-0.0
+    (c.in_err-check_uses.ensures ∙ ap (λ k. no_or 7 (uses_known (all_seen (take k s.items)) (uses_of (all_seen (take k s.items)))) None) whole)
+    ∙ sym (ap (λ r. on_err text_fault (on_ok loop_of r)) (then_seven text (statements_seen s) c.in_ok-statements.ensures))
 
-pub invariant-of-result : goal.invariant-of-result
-invariant-of-result c =
+pub invariant_of-result : goal.invariant_of-result
+invariant_of-result c =
     let text = c.args.text.now in
-    let s = c.in-ok-statements.statements in
+    let s = c.in_ok-statements.statements in
     let whole : s.count - 0 ≡ s.count = omega arith in
-    let known : None ≡ no_or 7 (uses_known (statements_seen s) (uses_of (statements_seen s))) None = c.in-ok-check-uses.ensures ∙ ap (λ k. no_or 7 (uses_known (all_seen (take k s.items)) (uses_of (all_seen (take k s.items)))) None) whole in
-    let read : reading loop_rules text ≡ Ok (statements_seen s) = then_seven text (statements_seen s) c.in-ok-statements.ensures ∙ passed_seven (statements_seen s) known in
-    let value = c.resolve-all.ensures.value ∙ ap (λ k. loop_of (all_seen (take k s.items))) whole in
-    (c.resolve-all.ensures.whole, (omega (arith, length-take (s.count - 0) s.items, s.whole, s.few), (ap sound_loop value ∙ is_sound_loop text (statements_seen s) read, tt)))
+    let known : None ≡ no_or 7 (uses_known (statements_seen s) (uses_of (statements_seen s))) None = c.in_ok-check_uses.ensures ∙ ap (λ k. no_or 7 (uses_known (all_seen (take k s.items)) (uses_of (all_seen (take k s.items)))) None) whole in
+    let read : reading loop_rules text ≡ Ok (statements_seen s) = then_seven text (statements_seen s) c.in_ok-statements.ensures ∙ passed_seven (statements_seen s) known in
+    let value = c.resolve_all.ensures.value ∙ ap (λ k. loop_of (all_seen (take k s.items))) whole in
+    (c.resolve_all.ensures.whole, (omega (arith, length-take (s.count - 0) s.items, s.whole, s.few), (ap sound_loop value ∙ is_sound_loop text (statements_seen s) read, tt)))
 
 pub returns : goal.returns
 returns c =
     let text = c.args.text.now in
-    let s = c.in-ok-statements.statements in
+    let s = c.in_ok-statements.statements in
     let whole : s.count - 0 ≡ s.count = omega arith in
-    let known : None ≡ no_or 7 (uses_known (statements_seen s) (uses_of (statements_seen s))) None = c.in-ok-check-uses.ensures ∙ ap (λ k. no_or 7 (uses_known (all_seen (take k s.items)) (uses_of (all_seen (take k s.items)))) None) whole in
-    let read : reading loop_rules text ≡ Ok (statements_seen s) = then_seven text (statements_seen s) c.in-ok-statements.ensures ∙ passed_seven (statements_seen s) known in
-    let value = c.resolve-all.ensures.value ∙ ap (λ k. loop_of (all_seen (take k s.items))) whole in
+    let known : None ≡ no_or 7 (uses_known (statements_seen s) (uses_of (statements_seen s))) None = c.in_ok-check_uses.ensures ∙ ap (λ k. no_or 7 (uses_known (all_seen (take k s.items)) (uses_of (all_seen (take k s.items)))) None) whole in
+    let read : reading loop_rules text ≡ Ok (statements_seen s) = then_seven text (statements_seen s) c.in_ok-statements.ensures ∙ passed_seven (statements_seen s) known in
+    let value = c.resolve_all.ensures.value ∙ ap (λ k. loop_of (all_seen (take k s.items))) whole in
     ap Ok value ∙ sym (ap (λ r. on_err text_fault (on_ok loop_of r)) read)

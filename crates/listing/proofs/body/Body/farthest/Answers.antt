@@ -10,8 +10,8 @@ loop-j-init c = refl
 
 pub loop-j-preserved : goal.loop-j-preserved
 loop-j-preserved c =
-    farthest_more c.args.self.now.source c.loop-j.j c.loop-j.farthest c.greatest-distance.result c.max-farthest.result _ c.loop-j-test.true
-    c.loop-j.invariant c.greatest-distance.ensures c.max-farthest.ensures
+    farthest_more c.args.self.now.source c.loop-j.j c.loop-j.farthest c.greatest_distance.result c.max-farthest.result _ c.loop-j-test.true
+    c.loop-j.invariant c.greatest_distance.ensures c.max-farthest.ensures
 
 pub returns : goal.returns
 returns c =

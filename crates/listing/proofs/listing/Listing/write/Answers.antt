@@ -21,11 +21,11 @@ returns-then-stages-gt8 g c =
       means = tt;
     }
 
-pub overflow-sub-stages : goal.overflow-sub-stages
-overflow-sub-stages g c = deep c.new-body.result c.depth-stages.result c.depth-stages.ensures
+pub overflow_sub-stages : goal.overflow_sub-stages
+overflow_sub-stages g c = deep c.new-body.result c.depth-stages.result c.depth-stages.ensures
 
-pub overflow-add-stages : goal.overflow-add-stages
-overflow-add-stages g c = omega (arith, near c.new-body.result c.farthest.result c.farthest.ensures, c.if-stages-gt8.false)
+pub overflow_add-stages : goal.overflow_add-stages
+overflow_add-stages g c = omega (arith, near c.new-body.result c.farthest.result c.farthest.ensures, c.if-stages-gt8.false)
 
 pub split-parts-requires : goal.split-parts-requires
 split-parts-requires g c = record {
@@ -41,8 +41,8 @@ write-requires g c =
     c.depth-stages.ensures c.if-stages-gt8.false c.farthest.ensures c.split-parts.ensures in
     record { parts = r.parts; few = r.few; slots = r.slots; rows = r.rows }
 
-pub invariant-of-self : goal.invariant-of-self
-invariant-of-self g c =
+pub invariant_of-self : goal.invariant_of-self
+invariant_of-self g c =
     let r = ready c.new-body.result (g.S.Scheme.meaning c.args.scheme.now).name c.depth-stages.result c.farthest.result c.args.turns c.args.trips c.split-parts.result
     (omega (arith, c.new-body.ensures.interval)) (omega (arith, c.new-body.ensures.interval)) c.new-body.ensures.turns c.if-turns-gt8.false c.new-body.ensures.trips c.if-trips-gt4096.false
     c.depth-stages.ensures c.if-stages-gt8.false c.farthest.ensures c.split-parts.ensures in

@@ -10,4 +10,4 @@ returns-then-place-len c =
 pub returns : goal.returns
 returns c =
     let v = c.args.self.now.rows.slots in
-    said_here (vec_items v) c.args.place c.index.result.now c.index.result.now _ (omega (arith, c.if-place-len.false, c.len.ensures, v.ok.0)) c.index.ensures c.issue-of.ensures
+    said_here (vec_items v) c.args.place c.index.result.now c.index.result.now _ (omega (arith, c.if-place-len.false, c.len.ensures, v.ok.0)) c.index.ensures c.issue_of.ensures

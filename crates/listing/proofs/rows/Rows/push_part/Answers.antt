@@ -8,8 +8,8 @@ use Rattle.listing.proofs.rows.Rows.push_part.Goals as goal
 pub loop-written-init : goal.loop-written-init
 loop-written-init g c = append_none c.args.self.now
 
-pub push-pass-requires : goal.push-pass-requires
-push-pass-requires g c =
+pub push_pass-requires : goal.push_pass-requires
+push_pass-requires g c =
     let b = c.args.body.now in
     let f : ℕ → List (List listings.Slot) =
     λ q. rows_of_pass (loop_of b) (schedule_of b) (g.S.Scheme.meaning c.args.scheme.now).name b.turns b.trips c.args.part q (c.args.first + q) in
@@ -20,7 +20,7 @@ loop-written-preserved g c =
     let b = c.args.body.now in
     let f : ℕ → List (List listings.Slot) =
     λ q. rows_of_pass (loop_of b) (schedule_of b) (g.S.Scheme.meaning c.args.scheme.now).name b.turns b.trips c.args.part q (c.args.first + q) in
-    append_next f c.args.self.now c.loop-written.self c.push-pass.new.self c.loop-written.written c.loop-written.invariant c.push-pass.ensures
+    append_next f c.args.self.now c.loop-written.self c.push_pass.new.self c.loop-written.written c.loop-written.invariant c.push_pass.ensures
 
 pub returns : goal.returns
 returns g c =

@@ -10,9 +10,9 @@ use Rattle.listing.proofs.rows.Rows.push_pass.Goals as goal
 pub loop-row-init : goal.loop-row-init
 loop-row-init g c = append_none c.args.self.now
 
-pub push-row-requires : goal.push-row-requires
+pub push_row-requires : goal.push_row-requires
 unfolding rows_of_pass
-push-row-requires g c =
+push_row-requires g c =
     let b = c.args.body.now in
     let pl = c.args.place in
     let f : ℕ → List (List listings.Slot) =
@@ -25,7 +25,7 @@ loop-row-preserved g c =
     let pl = c.args.place in
     let f : ℕ → List (List listings.Slot) =
     λ r. row_of (loop_of b) (schedule_of b) (g.S.Scheme.meaning c.args.scheme.now).name b.turns b.trips pl.part pl.written pl.pass r ∷ [] in
-    append_next f c.args.self.now c.loop-row.self c.push-row.new.self c.loop-row.row c.loop-row.invariant c.push-row.ensures
+    append_next f c.args.self.now c.loop-row.self c.push_row.new.self c.loop-row.row c.loop-row.invariant c.push_row.ensures
 
 pub returns : goal.returns
 unfolding rows_of_pass

@@ -7,8 +7,8 @@ pub returns-then-start-end : goal.returns-then-start-end
 unfolding taken
 returns-then-start-end c =
     let self = c.args.self.now in
-    let b = c.skip-spaces-start.ensures.value in
-    let e = c.run-end-end.ensures.value in
+    let b = c.skip_spaces-start.ensures.value in
+    let e = c.run_end-end.ensures.value in
     let q = c.if-start-end.true in
     record {
       token = finished self.line self.text.now self.at _ _ b e q ∙ sym (stays self.line self.text.now self.at _ _ b e q);
@@ -22,7 +22,7 @@ unfolding taken
 returns c =
     let self = c.args.self.now in
     record {
-      token = onward self.line self.text.now self.at _ _ c.skip-spaces-start.ensures.value c.run-end-end.ensures.value _ c.if-start-end.false c.token-of.ensures;
+      token = onward self.line self.text.now self.at _ _ c.skip_spaces-start.ensures.value c.run_end-end.ensures.value _ c.if-start-end.false c.token_of.ensures;
       finished = λ h. let z : ◌≡◌ {A = ℕ} 0 1 = cc in absurd (omega arith);
       text = search rules;
       line = search rules;

@@ -4,4 +4,4 @@ use Rattle.registers.proofs.Expansions.{need_is}
 use Rattle.registers.proofs.expanded.Expanded.need.Goals as goal
 
 pub returns : goal.returns
-returns c = need_is (table c.args.lives.now) c.turns-for.result (length c.as-slice.result.now) c.turns-for.ensures (ap length c.as-slice.ensures.lives) c.need-with.result c.need-with.ensures
+returns c = need_is (table c.args.lives.now) c.turns_for.result (length c.as_slice.result.now) c.turns_for.ensures (ap length c.as_slice.ensures.lives) c.need_with.result c.need_with.ensures

@@ -5,14 +5,14 @@ use Rattle.registers.specs.Views.{table}
 use Rattle.registers.proofs.Expansions.{need_is, meaning_is, fitting}
 use Rattle.registers.proofs.expansion.ExpandedScheme.fit.Goals as goal
 
-pub invariant-of-self : goal.invariant-of-self
-invariant-of-self c =
+pub invariant_of-self : goal.invariant_of-self
+invariant_of-self c =
     let t = table c.args.lives.now in
-    let u = c.turns-for-turns.result in
-    let n = length c.as-slice-count.result.now in
-    let e = c.turns-for-turns.ensures in
-    let f = ap length c.as-slice-count.ensures.lives in
-    let is = need_is t u n e f c.need-with.result c.need-with.ensures in
+    let u = c.turns_for-turns.result in
+    let n = length c.as_slice-count.result.now in
+    let e = c.turns_for-turns.ensures in
+    let f = ap length c.as_slice-count.ensures.lives in
+    let is = need_is t u n e f c.need_with.result c.need_with.ensures in
     let within : expanded_need t ≤ 64 = omega arith in
     let fit = fitting t u n e f within in
     (fit.0, (fit.1, (fit.2, tt)))
@@ -20,11 +20,11 @@ invariant-of-self c =
 pub returns : goal.returns
 returns c =
     let t = table c.args.lives.now in
-    let u = c.turns-for-turns.result in
-    let n = length c.as-slice-count.result.now in
-    let e = c.turns-for-turns.ensures in
-    let f = ap length c.as-slice-count.ensures.lives in
-    let is = need_is t u n e f c.need-with.result c.need-with.ensures in
+    let u = c.turns_for-turns.result in
+    let n = length c.as_slice-count.result.now in
+    let e = c.turns_for-turns.ensures in
+    let f = ap length c.as_slice-count.ensures.lives in
+    let is = need_is t u n e f c.need_with.result c.need_with.ensures in
     let within : expanded_need t ≤ 64 = omega arith in
     let formula = meaning_is t u n e f in
     record {
@@ -34,7 +34,7 @@ returns c =
         variables = f;
         file = refl;
         goal = refl;
-        apart = subst (λ m. Apart t m.place) (sym formula) (expanded_apart t c.as-slice-count.ensures.limits);
+        apart = subst (λ m. Apart t m.place) (sym formula) (expanded_apart t c.as_slice-count.ensures.limits);
       };
       formula = λ _. formula;
     }

@@ -3,8 +3,8 @@ use Rattle.std.proofs.lemmas.List.{take_more_set}
 use Rattle.registers.proofs.Tables.{each_more}
 use Rattle.registers.proofs.lives.Lives.push.Goals as goal
 
-pub invariant-of-self : goal.invariant-of-self
-invariant-of-self c =
+pub invariant_of-self : goal.invariant_of-self
+invariant_of-self c =
     let room : length c.args.self.now.lives ≡ 32 = search rules in
     let s = c.args.self.now in
     (s.some, (s.most, (omega arith, (each_more s.interval s.count s.lives c.args.life (omega arith) s.each (omega arith, omega arith, omega arith), tt))))

@@ -10,17 +10,17 @@ pub returns : goal.returns
 returns c =
     let l = c.args.lives.now in
     let t = table l in
-    let formula = laid_meaning l c.as-slice.result.now c.lay-out-need.result.0 c.as-slice.ensures.lives c.lay-out-need.ensures.bases in
-    let goal = c.lay-out-need.ensures.need in
+    let formula = laid_meaning l c.as_slice.result.now c.lay_out-need.result.0 c.as_slice.ensures.lives c.lay_out-need.ensures.bases in
+    let goal = c.lay_out-need.ensures.need in
     let within : rotating_need t ≤ 64 = omega arith in
     record {
       fitted = record {
         within = within;
         turns = refl;
-        variables = ap length c.as-slice.ensures.lives;
+        variables = ap length c.as_slice.ensures.lives;
         file = refl;
         goal = refl;
-        apart = subst (λ m. Apart t m.place) (sym formula) (rotating_apart t c.as-slice.ensures.limits within);
+        apart = subst (λ m. Apart t m.place) (sym formula) (rotating_apart t c.as_slice.ensures.limits within);
       };
       formula = λ _. formula;
     }

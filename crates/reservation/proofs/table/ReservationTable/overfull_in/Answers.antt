@@ -8,12 +8,12 @@ pub returns-then-overfull : goal.returns-then-overfull
 returns-then-overfull c =
     let t = c.args.self.now in
     some_found _ c.loop-b.b _
-    (ap (over t.interval c.args.class c.args.time c.args.busy (count t) (units_of t)) (sym c.stage-and-row-row.ensures.row) ∙ sym c.if-overfull.ensures)
+    (ap (over t.interval c.args.class c.args.time c.args.busy (count t) (units_of t)) (sym c.stage_and_row-row.ensures.row) ∙ sym c.if-overfull.ensures)
     c.loop-b-test.true
 
 pub loop-b-preserved : goal.loop-b-preserved
 loop-b-preserved c =
     let t = c.args.self.now in
     some_more _ c.loop-b.b
-    (ap (over t.interval c.args.class c.args.time c.args.busy (count t) (units_of t)) (sym c.stage-and-row-row.ensures.row) ∙ sym c.if-overfull.ensures)
+    (ap (over t.interval c.args.class c.args.time c.args.busy (count t) (units_of t)) (sym c.stage_and_row-row.ensures.row) ∙ sym c.if-overfull.ensures)
     c.loop-b.invariant

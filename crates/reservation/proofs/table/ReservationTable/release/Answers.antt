@@ -8,8 +8,8 @@ take-requires c =
     let parts = bookable_parts c.args.timing.class c.args.timing.busy c.args.time (sym c.if-not-takes.ensures) in
     (t.positive, (t.small, (parts.0, (omega (arith, parts.1, parts.2), c.if-not-holds.ensures.0 refl))))
 
-pub invariant-of-self : goal.invariant-of-self
-invariant-of-self c =
+pub invariant_of-self : goal.invariant_of-self
+invariant_of-self c =
     let t = c.args.self.now in
     (within_take t.interval c.args.timing.class c.args.time c.args.timing.busy t.rows.counts _ t.units c.take.ensures t.held, (t.positive, (t.small, (t.few, tt))))
 

@@ -10,6 +10,6 @@ returns-then-bytes-eq0 c = record { word = refl; finished = λ _. ap words_of (n
 pub returns : goal.returns
 returns c =
     record {
-      word = next_is c.args.self.now.bytes.now c.word-end-end.result c.if-bytes-eq0.false c.word-end-end.ensures.value;
+      word = next_is c.args.self.now.bytes.now c.word_end-end.result c.if-bytes-eq0.false c.word_end-end.ensures.value;
       finished = λ q. let z : ◌≡◌ {A = ℕ} 0 1 = cc in absurd (omega arith);
     }

@@ -4,8 +4,8 @@ use Rattle.search_laws.proofs.Steps.{pick_free, step_some, step_none}
 use Rattle.search.proofs.Boards.{slot_of, slot_small}
 use Rattle.search.proofs.state.Progress.step.Goals as goal
 
-pub overflow-cast-time : goal.overflow-cast-time
-overflow-cast-time c =
+pub overflow_cast-time : goal.overflow_cast-time
+overflow_cast-time c =
     let it = slot_small c.requires.weighed.0 c.args.timings.now c.args.weights.now c.args.self.now c.requires.fitting c.requires.weighed.1 c.requires.sound c.in-Some.op c.in-Some.ensures.below
     c.early-from.result c.early-from.ensures.value c.early-from.ensures.small c.at.result c.at.ensures c.slot-time.result c.slot-time.ensures.value c.requires.low c.requires.steps in
     omega arith
@@ -34,12 +34,12 @@ returns-in-Some c =
       alike = c.place.ensures.alike;
     }
 
-pub returns-in-default : goal.returns-in-default
-returns-in-default c =
+pub returns-in_default : goal.returns-in_default
+returns-in_default c =
     let us = c.args.timings.now in
     let s = c.args.self.now in
     record {
-      state = λ es weighed. step_none es (hw_of us s.board.table) (length us) s.board.table.interval (λ j. get_or c.args.heights.now j 0) (state_of s) c.pick.result c.pick.ensures.picked c.in-default.is;
+      state = λ es weighed. step_none es (hw_of us s.board.table) (length us) s.board.table.interval (λ j. get_or c.args.heights.now j 0) (state_of s) c.pick.result c.pick.ensures.picked c.in_default.is;
       sound = c.requires.sound;
       alike = record { units = refl; interval = refl };
     }

@@ -7,14 +7,14 @@ use Rattle.standing.proofs.desk.Desk.edges.Goals as goal
 pub returns-in-Loop : goal.returns-in-Loop
 returns-in-Loop c =
     let d = c.args.self.now in
-    c.as-slice.ensures ∙ told_edges (loop_in (standing_seen d.standing)) (vec_items d.edges.list) (body_seen c.in-Loop.field-0) d.tied (ap (λ x. loop_in (standing_seen x)) c.in-Loop.is)
+    c.as_slice.ensures ∙ told_edges (loop_in (standing_seen d.standing)) (vec_items d.edges.list) (body_seen c.in-Loop.field-0) d.tied (ap (λ x. loop_in (standing_seen x)) c.in-Loop.is)
 
 pub returns-in-Plan : goal.returns-in-Plan
 returns-in-Plan c =
     let d = c.args.self.now in
-    c.as-slice-in-Plan.ensures ∙ told_edges (loop_in (standing_seen d.standing)) (vec_items d.edges.list) (body_seen c.in-Plan.field-0.body) d.tied (ap (λ x. loop_in (standing_seen x)) c.in-Plan.is)
+    c.as_slice-in-Plan.ensures ∙ told_edges (loop_in (standing_seen d.standing)) (vec_items d.edges.list) (body_seen c.in-Plan.field-0.body) d.tied (ap (λ x. loop_in (standing_seen x)) c.in-Plan.is)
 
 pub returns-in-Listing : goal.returns-in-Listing
 returns-in-Listing c =
     let d = c.args.self.now in
-    c.as-slice-in-Listing.ensures ∙ told_edges (loop_in (standing_seen d.standing)) (vec_items d.edges.list) (body_seen c.in-Listing.field-0.body) d.tied (ap (λ x. loop_in (standing_seen x)) c.in-Listing.is)
+    c.as_slice-in-Listing.ensures ∙ told_edges (loop_in (standing_seen d.standing)) (vec_items d.edges.list) (body_seen c.in-Listing.field-0.body) d.tied (ap (λ x. loop_in (standing_seen x)) c.in-Listing.is)

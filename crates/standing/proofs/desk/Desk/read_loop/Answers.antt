@@ -6,9 +6,9 @@ use Rattle.standing.proofs.Same.{edges_same}
 use Rattle.standing.proofs.desk.Desk.read_loop.Goals as goal
 
 -- the list is that of the loop's edges
-pub invariant-of-self : goal.invariant-of-self
-invariant-of-self c = (
+pub invariant_of-self : goal.invariant_of-self
+invariant_of-self c = (
   edges_same (vec_items c.build.new.self.list)
-      (edges_in (record { machine = machine_seen c.in-Some.machine; ops = loop_seen c.in-ok-source.source })) c.build.ensures,
+      (edges_in (record { machine = machine_seen c.in-Some.machine; ops = loop_seen c.in_ok-source.source })) c.build.ensures,
   tt,
 )

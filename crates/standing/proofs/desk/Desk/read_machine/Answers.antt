@@ -5,4 +5,4 @@ use Rattle.standing.proofs.desk.Desk.read_machine.Goals as goal
 
 pub returns : goal.returns
 returns c =
-    (machine_seen c.in-ok-machine.machine, (sym (ap (on_err text_fault) c.in-ok-machine.ensures), refl, c.in-ok-machine.machine.sound))
+    (machine_seen c.in_ok-machine.machine, (sym (ap (on_err text_fault) c.in_ok-machine.ensures), refl, c.in_ok-machine.machine.sound))

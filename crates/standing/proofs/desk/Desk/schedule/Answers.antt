@@ -6,23 +6,23 @@ use Rattle.standing.proofs.Held.{desk_edges, success_holds}
 use Rattle.standing.proofs.desk.Desk.schedule.Goals as goal
 
 -- a schedule of the edges on the desk is one of the loop
-pub invariant-of-self : goal.invariant-of-self
-invariant-of-self g c =
+pub invariant_of-self : goal.invariant_of-self
+invariant_of-self g c =
     let b = c.in-Some.body in
-    let holds = success_holds g.S.Scheme.meaning g.S.Scheme.place g.met.S.Scheme.lawful g.met.S.Scheme.placed b c.as-slice.result.now c.args.scheme.now c.schedule-loop.new.scheme
-    c.in-Ok.scheduled (c.as-slice.ensures ∙ desk_edges c.args.self.now b c.in-Some.ensures) c.in-Ok.ensures in
+    let holds = success_holds g.S.Scheme.meaning g.S.Scheme.place g.met.S.Scheme.lawful g.met.S.Scheme.placed b c.as_slice.result.now c.args.scheme.now c.schedule_loop.new.scheme
+    c.in-Ok.scheduled (c.as_slice.ensures ∙ desk_edges c.args.self.now b c.in-Some.ensures) c.in-Ok.ensures in
     (∣ holds.sound.is_schedule ∣₁, (holds.sound.eight, tt))
 
 pub returns-in-Ok : goal.returns-in-Ok
 returns-in-Ok g c =
     let b = c.in-Some.body in
-    let said = subst (λ es. ScheduleOf g.S.Scheme.meaning g.S.Scheme.place (machine_seen b.machine) (loop_seen b.source) es c.args.scheme.now c.schedule-loop.new.scheme (Ok c.in-Ok.scheduled))
-    c.as-slice.ensures c.in-Ok.ensures in
+    let said = subst (λ es. ScheduleOf g.S.Scheme.meaning g.S.Scheme.place (machine_seen b.machine) (loop_seen b.source) es c.args.scheme.now c.schedule_loop.new.scheme (Ok c.in-Ok.scheduled))
+    c.as_slice.ensures c.in-Ok.ensures in
     (b, (c.in-Some.ensures, said, refl, refl))
 
 pub returns-in-Err : goal.returns-in-Err
 returns-in-Err g c =
     let b = c.in-Some.body in
-    let said = subst (λ es. ScheduleOf g.S.Scheme.meaning g.S.Scheme.place (machine_seen b.machine) (loop_seen b.source) es c.args.scheme.now c.schedule-loop.new.scheme (Err c.in-Err.field-0))
-    c.as-slice.ensures c.in-Err.ensures in
+    let said = subst (λ es. ScheduleOf g.S.Scheme.meaning g.S.Scheme.place (machine_seen b.machine) (loop_seen b.source) es c.args.scheme.now c.schedule_loop.new.scheme (Err c.in-Err.field-0))
+    c.as_slice.ensures c.in-Err.ensures in
     ((refl, refl, refl), inr (b, (c.in-Some.ensures, refl, (c.in-Err.field-0, said))))

@@ -5,9 +5,9 @@ use Rattle.text_laws.proofs.SoundMachines.{is_sound_machine}
 use Rattle.texts.specs.Seen.{entries_seen}
 use Rattle.texts.proofs.machine.Machine.read.Goals as goal
 
-pub invariant-of-result : goal.invariant-of-result
-invariant-of-result c =
+pub invariant_of-result : goal.invariant_of-result
+invariant_of-result c =
     let text = c.args.text.now in
-    let short : leb (length text) 4096 ≡ true = le-leb _ _ (ltb-false 4096 _ (sym c.is-too-long.ensures ∙ c.if-is-too-long.false)) in
-    let read : read_machine text ≡ Ok (entries_seen c.machine-lines.new.m) = simp short (sym c.in-ok-machine-lines.ensures) in
-    (is_sound_machine text (entries_seen c.machine-lines.new.m) read, tt)
+    let short : leb (length text) 4096 ≡ true = le-leb _ _ (ltb-false 4096 _ (sym c.is_too_long.ensures ∙ c.if-is_too_long.false)) in
+    let read : read_machine text ≡ Ok (entries_seen c.machine_lines.new.m) = simp short (sym c.in_ok-machine_lines.ensures) in
+    (is_sound_machine text (entries_seen c.machine_lines.new.m) read, tt)
