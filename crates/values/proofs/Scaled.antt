@@ -1,10 +1,5 @@
 -- One cell more of a list that is mapped in place.
-use mathlib.Core.Path.{◌≡◌, refl, sym, ap, ◌∙◌}
-use mathlib.Core.List.{List, [], ◌∷◌, ◌++◌, map}
-use Prim.Native.Nat.{ℕ, suc, zero, ◌+◌, ◌≤◌, ◌<◌}
-use native.Mathlib.Omega.{arith}
-use native.Mathlib.Numerals.{add-one}
-use lib.ListN.{length, take, drop, get_or, set}
+use Rattle.std.proofs.Common.{◌≡◌, ℕ, suc, zero, ◌+◌, ◌≤◌, ◌<◌, List, [], ◌∷◌, ◌++◌, map, length, take, drop, get_or, set, refl, sym, ap, ◌∙◌, arith, add-one}
 
 module _ {V : Type 0} (f : V → V) (d : V) where
   next : (e : List V) (i : ℕ) → i < length e → set (map f (take i e) ++ drop i e) i (f (get_or (map f (take i e) ++ drop i e) i d)) ≡ map f (take (suc i) e) ++ drop (suc i) e

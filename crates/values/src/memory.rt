@@ -10,7 +10,7 @@ use crate::words::Words;
 
 // Multiplies each cell.
 pub fn scale<D: Domain>(domain: &D, factor: D::Value, cells: &mut [D::Value])
-    ensures { cells.new ≡ map (λ x. operations.apply Times x factor) cells.old }
+    ensures { cells.new ≡ map (λ x. D.operations.apply Times x factor) cells.old }
 {
     for x in cells.iter_mut() {
         *x = domain.mul(*x, factor);

@@ -1,9 +1,6 @@
-use Prim.Native.Nat.{ℕ, suc, ◌^◌, ◌≤◌, ◌<◌}
-use mathlib.Core.Bool.{true, false}
-use native.Mathlib.Omega.{arith}
-use lib.IntN.{pos, negsuc}
-use lib.Ieee.{binary64, prec, of_int}
-use lib.Ieee.Exact.{HasValue}
+use Rattle.std.specs.Float.{binary64}
+use Rattle.std.specs.Float.Ieee.{of_int}
+use Rattle.std.proofs.Common.{ℕ, suc, ◌^◌, ◌<◌, true, false, pos, negsuc, arith}
 use lib.Ieee.Back.{round_whole}
 use Rattle.model.specs.Domains.{Exact, floats}
 use Rattle.values.proofs.floats.literals_exact.Goals as goal

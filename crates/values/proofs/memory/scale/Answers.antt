@@ -1,5 +1,4 @@
-use mathlib.Core.Path.{◌∙◌}
-use native.Mathlib.Omega.{arith}
+use Rattle.std.proofs.Common.{◌∙◌, arith}
 use Rattle.model.specs.declared.Operator.TheVariants.{Times}
 use Rattle.values.proofs.Scaled.{mapped_more, mapped_all}
 use Rattle.values.proofs.memory.scale.Goals as goal

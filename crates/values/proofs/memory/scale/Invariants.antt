@@ -1,7 +1,4 @@
-use mathlib.Core.Path.{◌≡◌}
-use mathlib.Core.List.{◌++◌, map}
-use Prim.Native.Nat.{◌≤◌}
-use lib.ListN.{length, take, drop}
+use Rattle.std.proofs.Common.{◌≡◌, ◌≤◌, ◌++◌, map, length, take, drop}
 use Rattle.model.specs.declared.Operator.TheVariants.{Times}
 use Rattle.values.proofs.memory.scale.Given as goal
 
