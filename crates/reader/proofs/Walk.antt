@@ -3,9 +3,9 @@ use Rattle.std.proofs.Common.{◌≡◌, ℕ, zero, suc, ◌+◌, ◌≤◌, Boo
 use Rattle.std.specs.List.{prefix_len}
 use Rattle.std.proofs.lemmas.Bool.{and_parts, or_cases, both_ways, eqb-true, leb-true}
 use Rattle.model.specs.Shapes.{between, letter, name_of, after_at, Kind, word, number, operand, other, kind_of, is_name, is_number, is_earlier, is_negative}
-use Rattle.model.specs.Lines.{Line, Lexeme, no_token, tok, tokens, lexemes, space, run, is_word, is_digits}
+use Rattle.model.specs.Lines.{Line, Lexeme, tok, tokens, lexemes, space, run, is_word, is_digits}
 use Rattle.reader.specs.declared.token.Token.{Token}
-use Rattle.reader.specs.Seen.{seen, shown, left, taken}
+use Rattle.reader.specs.Seen.{shown, left, taken}
 use Rattle.reader.specs.Rows.{nth_of, or_none}
 
 -- the first of what is left is the token, and then come the others
