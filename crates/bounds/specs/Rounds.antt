@@ -1,5 +1,5 @@
 -- What rounds of relaxation leave in the code's arrays.
-use Rattle.std.specs.Prelude.{◌≡◌, ℕ, suc, ◌-◌, ◌<◌, ◌≤◌, List, [], Some, None, Option, slice_index}
+use Rattle.std.specs.Prelude.{◌≡◌, ℕ, ◌-◌, ◌<◌, ◌≤◌, List, Some, None, Option, slice_index}
 use Rattle.model.specs.declared.Edge.{Edge}
 use Rattle.model.specs.Minimum.{NoneAbove, Standing, RecurrenceMinimum, IsHeight}
 use Rattle.model.specs.Relaxation.{round, rounds}

@@ -1,6 +1,6 @@
 use Rattle.std.proofs.Common.{◌≡◌, ℕ, suc, ◌-◌, [], get_or, take, subst, arith}
 use Rattle.std.proofs.lemmas.List.{length-set}
-use Rattle.graph_laws.specs.Trails.{Marked, Partly}
+use Rattle.graph_laws.specs.Trails.{Partly}
 use Rattle.graph_laws.proofs.Steps.{fits_at}
 use Rattle.graph_laws.proofs.Trail.{goes_on, ended}
 use Rattle.bounds.proofs.circuit.best_walk.Goals as goal

@@ -1,4 +1,4 @@
-use Rattle.std.proofs.Common.{◌≡◌, ℕ, ◌+◌, ◌-◌, ◌++◌, length, take, drop}
+use Rattle.std.proofs.Common.{◌≡◌, ◌+◌, ◌-◌, ◌++◌, length, take, drop}
 use Rattle.bounds.proofs.circuit.extend.Given as goal
 
 abbrev pub invariant-loop-t : goal.invariant-loop-t

@@ -1,8 +1,8 @@
-use Rattle.std.proofs.Common.{◌≡◌, ◌+◌, ◌≤◌, length, take, set, sym, refl, ap, ◌∙◌, subst, arith, rules}
+use Rattle.std.proofs.Common.{◌+◌, ◌≤◌, length, take, set, sym, refl, subst, arith, rules}
 use Rattle.std.proofs.lemmas.List.{length-set}
-use Rattle.graph_laws.specs.Trails.{standing, Passed}
+use Rattle.graph_laws.specs.Trails.{Passed}
 use Rattle.graph_laws.proofs.Steps.{zeros}
-use Rattle.graph_laws.proofs.Again.{GoesOn, walk_goes_on, passed}
+use Rattle.graph_laws.proofs.Again.{walk_goes_on, passed}
 use Rattle.bounds.proofs.circuit.repeated.Goals as goal
 
 pub loop-seen-init : goal.loop-seen-init

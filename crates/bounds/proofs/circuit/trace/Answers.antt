@@ -1,4 +1,4 @@
-use Rattle.std.proofs.Common.{refl, arith, rules}
+use Rattle.std.proofs.Common.{refl, arith}
 use Rattle.std.proofs.lemmas.List.{length-set}
 use Rattle.model.specs.Relaxation.{rounds}
 use Rattle.graph_laws.proofs.Steps.{one_more, zeros, low, widened, row_traced}

@@ -1,4 +1,4 @@
-use Rattle.std.proofs.Common.{length, arith}
+use Rattle.std.proofs.Common.{arith}
 use Rattle.model.specs.Limits.{GraphFits}
 use Rattle.graph_laws.proofs.Steps.{all_within, circuit_here}
 use Rattle.bounds.proofs.height.heights.Goals as goal

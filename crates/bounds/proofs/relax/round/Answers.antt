@@ -1,7 +1,7 @@
-use Rattle.std.proofs.Common.{length, get_or, sym, refl, ap, ◌∙◌, arith, rules}
+use Rattle.std.proofs.Common.{refl, ◌∙◌, arith, rules}
 use Rattle.std.proofs.lemmas.List.{length-set, take_all}
 use Rattle.model.specs.Relaxation.{round}
-use Rattle.graph_laws.specs.Trails.{value, Marked}
+use Rattle.graph_laws.specs.Trails.{value}
 use Rattle.graph_laws.proofs.Steps.{fits_at, raises, stays, mark_raises, unmarked}
 use Rattle.bounds.proofs.relax.round.Goals as goal
 use Rattle.bounds.proofs.relax.round.Goals.{then-values-e, else-values-e}

@@ -14,19 +14,19 @@ round-row-requires c =
       fit = fit;
       short = c.requires.fits.short;
       interval = c.requires.interval;
-      low = low c.args.k 32 c.loop-r.-r c.args.edges.now c.loop-r.held fit (omega (arith, c.requires.fits.few)) c.loop-r.invariant.0;
+      low = low c.args.k 32 c.loop-r._r c.args.edges.now c.loop-r.held fit (omega (arith, c.requires.fits.few)) c.loop-r.invariant.0;
     }
 
 pub returns-in-None : goal.returns-in-None
-returns-in-None c = settled c.args.k c.loop-r.-r c.args.edges.now c.loop-r.held _ c.loop-r.invariant.0 c.round-row.ensures.values
+returns-in-None c = settled c.args.k c.loop-r._r c.args.edges.now c.loop-r.held _ c.loop-r.invariant.0 c.round-row.ensures.values
     (λ u. (c.round-row.ensures.marks u).same (c.in-None.ensures u))
 
 pub loop-r-preserved : goal.loop-r-preserved
 loop-r-preserved c = (
-  one_more c.args.k c.loop-r.-r c.args.edges.now c.loop-r.held _ c.loop-r.invariant.0 c.round-row.ensures.values,
+  one_more c.args.k c.loop-r._r c.args.edges.now c.loop-r.held _ c.loop-r.invariant.0 c.round-row.ensures.values,
   λ _. (
     c.in-Some.ensures.0,
-    rose c.args.k c.loop-r.-r c.args.edges.now c.loop-r.held _ c.loop-r.invariant.0 c.round-row.ensures.values _
+    rose c.args.k c.loop-r._r c.args.edges.now c.loop-r.held _ c.loop-r.invariant.0 c.round-row.ensures.values _
         (λ e. omega (arith, (c.round-row.ensures.marks c.in-Some.u).rose c.in-Some.ensures.1, e)),
   ),
 )

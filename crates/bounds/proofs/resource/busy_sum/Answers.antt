@@ -1,4 +1,4 @@
-use Rattle.std.proofs.Common.{◌≤◌, [], arith, rules}
+use Rattle.std.proofs.Common.{◌≤◌, [], arith}
 use Rattle.std.proofs.ByRecursion.{All-get_or}
 use Rattle.model.specs.Limits.{timing, hardware}
 use Rattle.graph_laws.proofs.Top.{busy_yes, busy_no}

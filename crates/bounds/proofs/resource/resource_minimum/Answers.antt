@@ -1,4 +1,4 @@
-use Rattle.std.proofs.Common.{◌≡◌, ℕ, ◌+◌, ◌-◌, ◌/◌, ◌≤◌, length, get_or, sym, refl, ap, ◌∙◌, subst₂, arith}
+use Rattle.std.proofs.Common.{◌≡◌, ℕ, ◌+◌, ◌-◌, ◌/◌, ◌≤◌, length, get_or, sym, ap, subst₂, arith}
 use Rattle.std.proofs.ByRecursion.{All-weaker}
 use Rattle.model.specs.Limits.{hardware, TimingFits}
 use Rattle.model.specs.Minimum.{own_minimum}
