@@ -1,5 +1,5 @@
 -- What one line does, by its form. Assumes nothing.
-use Rattle.std.proofs.Common.{◌≡◌, ℕ, zero, suc, ◌+◌, ◌^◌, ◌<◌, ◌≤◌, Bool, true, false, cond, not, ◌&&◌, List, [], ◌∷◌, ◌++◌, length, get_or, is_some as given, Some, None, Ok, Err, Option, Result, sym, refl, ap, ◌∙◌, subst, ⊎_elim, arith}
+use Rattle.std.proofs.Common.{◌≡◌, ℕ, Bool, true, false, cond, List, [], ◌∷◌, ◌++◌, is_some as given, Some, None, Ok, Err, Option, Result, sym, refl, ap, ◌∙◌, ⊎_elim, arith}
 use Rattle.std.proofs.lemmas.List.{append-nil}
 use Rattle.std.proofs.lemmas.Bool.{and_parts, cases_Bool}
 use Rattle.reader.specs.declared.token.Token.{Token}
@@ -8,10 +8,10 @@ use Rattle.model.specs.declared.MachineForm.{MachineForm}
 use Rattle.model.specs.declared.MachineForm.TheVariants.{Unit as UnitForm, Op}
 use Rattle.model.specs.Lines.{Line, Lexeme, tokens, tok}
 use Rattle.model.specs.Shapes.{every, between, has_some, code_of}
-use Rattle.model.specs.Questions.{Answer, good, bad, Refusal, no_or, unless, formed_by}
+use Rattle.model.specs.Questions.{Answer, good, Refusal, no_or, unless, formed_by}
 use Rattle.model.specs.MachineText.{Class, Machine, form_of, formed, ranged_by, named_by, roomy_by, class_by, timings_by, machine_rules}
-use Rattle.reader.specs.Rows.{nth_of, or_none}
-use Rattle.texts.specs.Seen.{is_none, text, wordy, digits, unit_in, op_in, row_form, unit_step, op_step, line_step}
+use Rattle.reader.specs.Rows.{nth_of}
+use Rattle.texts.specs.Seen.{text, wordy, digits, unit_in, op_in, row_form, unit_step, op_step, line_step}
 
 pub form_in : (ts : List Lexeme) → row_form (nth_of ts 0) (nth_of ts 1) (nth_of ts 2) (nth_of ts 3) (nth_of ts 4) (nth_of ts 5) ≡ form_of ts
 form_in [] = refl

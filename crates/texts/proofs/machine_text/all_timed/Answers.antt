@@ -1,4 +1,4 @@
-use Rattle.std.proofs.Common.{◌≡◌, get_or, None, sym, refl, ◌∙◌}
+use Rattle.std.proofs.Common.{None, sym, ◌∙◌}
 use Rattle.model.specs.Shapes.{has_some}
 use Rattle.texts.proofs.Cuts.{all_yes, all_no, all_end}
 use Rattle.texts.proofs.machine_text.all_timed.Goals as goal

@@ -1,4 +1,4 @@
-use Rattle.std.proofs.Common.{◌≡◌, sym, ap, ◌∙◌}
+use Rattle.std.proofs.Common.{sym, ap, ◌∙◌}
 use Rattle.std.specs.Str.{bytes_eq}
 use Rattle.texts.proofs.Names.{at_end, hit, miss}
 use Rattle.texts.proofs.machine_text.class_at.Goals as goal

@@ -1,4 +1,4 @@
-use Rattle.std.proofs.Common.{◌≡◌, ◌+◌, length, drop}
+use Rattle.std.proofs.Common.{◌≡◌, ◌+◌, drop}
 use Rattle.model.specs.MachineText.{class_at}
 use Rattle.texts.specs.Seen.{classes_seen}
 use Rattle.texts.proofs.machine_text.class_at.Given as goal

@@ -1,4 +1,4 @@
-use Rattle.std.proofs.Common.{◌≡◌, ltb, length, sym, ap, ◌∙◌, arith}
+use Rattle.std.proofs.Common.{ltb, length, sym, ap, ◌∙◌}
 use lib.ListN.{length-map}
 use Rattle.texts.specs.Seen.{class_seen, classes_seen}
 use Rattle.text_laws.proofs.SoundMachines.{is_class}

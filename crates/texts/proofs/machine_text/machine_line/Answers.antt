@@ -3,7 +3,7 @@ use Rattle.reader.specs.Seen.{shown}
 use Rattle.model.specs.declared.MachineForm.TheVariants.{Unit as UnitForm, Op}
 use Rattle.model.specs.Lines.{Line, tokens, tok}
 use Rattle.model.specs.Shapes.{every, between}
-use Rattle.reader.specs.Rows.{nth_of, or_none}
+use Rattle.reader.specs.Rows.{or_none}
 use Rattle.texts.specs.Seen.{row_form, unit_step, op_step}
 use Rattle.texts.specs.Seen.{entries_seen}
 use Rattle.reader.proofs.Walk.{tok_same, name_at, number_at}

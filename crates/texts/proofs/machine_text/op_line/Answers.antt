@@ -1,8 +1,8 @@
-use Rattle.std.proofs.Common.{◌≡◌, ◌-◌, ◌<◌, ◌≤◌, true, false, length, get_or, take, None, Err, sym, ap, ◌∙◌, arith}
+use Rattle.std.proofs.Common.{◌≡◌, ◌-◌, true, false, length, get_or, take, None, Err, sym, ap, ◌∙◌, arith}
 use Rattle.std.proofs.lemmas.List.{length-take-le}
 use Rattle.reader.specs.Seen.{shown}
 use Rattle.model.specs.Shapes.{between, value, has_some, code_of}
-use Rattle.model.specs.MachineText.{names_class, class_at, number_of}
+use Rattle.model.specs.MachineText.{class_at, number_of}
 use Rattle.reader.specs.Rows.{or_none}
 use Rattle.texts.specs.Faults.{refusal}
 use Rattle.texts.specs.Seen.{classes_seen}
