@@ -1,5 +1,5 @@
 -- An expanded scheme with the turns and the number of variables of a table.
-use Rattle.std.proofs.Common.{◌≡◌, ℕ, ◌*◌, ◌<◌, ◌≤◌, cond, ltb, length, sym, refl, ap, ◌∙◌, subst, ap₂, arith}
+use Rattle.std.proofs.Common.{◌≡◌, ℕ, ◌*◌, ◌≤◌, cond, ltb, length, sym, ◌∙◌, subst, ap₂, arith}
 use Rattle.model.specs.Lives.{Table}
 use Rattle.model.specs.Schemes.{expanded_turns, expanded_need, expanded_with, expanded}
 use Rattle.register_laws.proofs.Expanded.{some_want, few_turns, all_fit}

@@ -1,8 +1,8 @@
 -- The rotating scheme's bases, one variable after the other.
-use Rattle.std.proofs.Common.{◌≡◌, ℕ, zero, suc, ◌+◌, ◌-◌, ◌*◌, ◌/◌, ◌%◌, ◌<◌, ◌≤◌, ◌≢◌, List, [], ◌∷◌, length, get_or, take, set, sym, refl, ap, ◌∙◌, subst, div-lt_iff_lt-mul, div-le_self, arith, length-set, take_all, get_or-set_other, get_or-set_same, below_more}
+use Rattle.std.proofs.Common.{◌≡◌, ℕ, ◌+◌, ◌-◌, ◌*◌, ◌/◌, ◌%◌, ◌<◌, ◌≤◌, ◌≢◌, List, length, get_or, take, set, sym, ap, ◌∙◌, subst, div-lt_iff_lt-mul, div-le_self, arith, length-set, take_all, get_or-set_other, get_or-set_same, below_more}
 use Rattle.model.specs.declared.Life.{Life}
-use Rattle.model.specs.Lives.{Table, no_life, life, Limits}
-use Rattle.model.specs.Schemes.{width, widths, rotating_need, rotating_base, rotating_with, rotating}
+use Rattle.model.specs.Lives.{Table, life, Limits}
+use Rattle.model.specs.Schemes.{widths, rotating_need, rotating_base, rotating_with, rotating}
 use Rattle.register_laws.proofs.Rotating.{div_le_div_right, widths_more, rotating_same}
 use Rattle.registers.specs.declared.lives.Lives.{Lives}
 use Rattle.registers.specs.Views.{table}

@@ -1,7 +1,7 @@
 -- Tables of lives keep their limits.
-use Rattle.std.proofs.Common.{◌≡◌, ℕ, zero, suc, ◌+◌, ◌*◌, ◌<◌, ◌≤◌, min, ◌≢◌, List, [], ◌∷◌, length, get_or, take, set, sym, refl, ap, ◌∙◌, subst, arith, length-take, get_or-set_other, get_or-take, get_or-set_same, below_more}
+use Rattle.std.proofs.Common.{ℕ, ◌+◌, ◌<◌, ◌≤◌, ◌≢◌, List, length, get_or, set, sym, subst, arith, length-take, get_or-set_other, get_or-take, get_or-set_same, below_more}
 use Rattle.model.specs.declared.Life.{Life}
-use Rattle.model.specs.Lives.{Table, no_life, life, LifeWithin, Limits}
+use Rattle.model.specs.Lives.{no_life, LifeWithin, Limits}
 use Rattle.registers.specs.declared.lives.Lives.{Lives}
 use Rattle.registers.specs.Views.{table}
 

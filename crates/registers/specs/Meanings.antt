@@ -1,5 +1,5 @@
 -- What the two schemes mean, by their fields.
-use Rattle.std.specs.Prelude.{ℕ, slice_index}
+use Rattle.std.specs.Prelude.{slice_index}
 use Rattle.model.specs.Schemes.{Meaning, rotating_with, expanded_with}
 use Rattle.registers.specs.declared.rotating.Rotating.{Rotating}
 use Rattle.registers.specs.declared.expanded.Expanded.{Expanded}

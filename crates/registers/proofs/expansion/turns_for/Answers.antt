@@ -1,8 +1,8 @@
-use Rattle.std.proofs.Common.{◌≡◌, ◌-◌, length, get_or, ap, ◌∙◌, div-le_self, arith, take_all}
+use Rattle.std.proofs.Common.{◌-◌, get_or, ap, ◌∙◌, div-le_self, arith, take_all}
 use Rattle.model.specs.Lives.{no_life}
 use Rattle.model.specs.Schemes.{greatest_want, expanded_turns}
 use Rattle.register_laws.proofs.Expanded.{greatest_more}
-use Rattle.registers.proofs.Layouts.{seen, asked, asked_limits}
+use Rattle.registers.proofs.Layouts.{asked, asked_limits}
 use Rattle.registers.proofs.expansion.turns_for.Goals as goal
 
 pub overflow_sub-life : goal.overflow_sub-life

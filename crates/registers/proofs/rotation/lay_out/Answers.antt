@@ -72,6 +72,6 @@ returns c =
     let e = c.interval-interval.ensures in
     let f = c.as_slice-life-items.ensures.lives in
     record {
-      goal = need_is l k ls e f c.loop-v.v c.loop-v.need c.loop-v.bases c.loop-v.invariant c.loop-v-test.false;
+      need = need_is l k ls e f c.loop-v.v c.loop-v.need c.loop-v.bases c.loop-v.invariant c.loop-v-test.false;
       bases = bases_are l k ls e f c.loop-v.v c.loop-v.need c.loop-v.bases c.loop-v.invariant c.loop-v-test.false;
     }

@@ -1,4 +1,4 @@
-use Rattle.std.proofs.Common.{◌≡◌, ◌≤◌, length, sym, refl, ap, ◌∙◌, subst, arith}
+use Rattle.std.proofs.Common.{◌≤◌, length, sym, refl, ap, subst, arith}
 use Rattle.model.specs.Schemes.{Apart, expanded_need}
 use Rattle.register_laws.proofs.Expanded.{expanded_apart}
 use Rattle.registers.specs.Views.{table}
@@ -15,7 +15,7 @@ invariant_of-self c =
     let is = need_is t u n e f c.need_with.result c.need_with.ensures in
     let within : expanded_need t ≤ 64 = omega arith in
     let fit = fitting t u n e f within in
-    (fit.0, (fit.1, (fit.2, tt)))
+    record { some = fit.0; few = fit.1; fits = fit.2 }
 
 pub returns : goal.returns
 returns c =
@@ -33,7 +33,7 @@ returns c =
         turns = refl;
         variables = f;
         file = refl;
-        goal = refl;
+        need = refl;
         apart = subst (λ m. Apart t m.place) (sym formula) (expanded_apart t c.as_slice-count.ensures.limits);
       };
       formula = λ _. formula;

@@ -1,4 +1,4 @@
-use Rattle.std.proofs.Common.{◌+◌, ◌-◌, ◌*◌, ◌%◌, ◌<◌, mod-lt, arith}
+use Rattle.std.proofs.Common.{◌+◌, ◌-◌, ◌*◌, ◌%◌, mod-lt, arith}
 use Rattle.register_laws.proofs.Expanded.{within}
 use Rattle.registers.proofs.expansion.ExpandedScheme.name.Goals as goal
 

@@ -7,7 +7,12 @@ pub invariant_of-self : goal.invariant_of-self
 invariant_of-self c =
     let room : length c.args.self.now.lives ≡ 32 = search rules in
     let s = c.args.self.now in
-    (s.some, (s.most, (omega arith, (each_more s.interval s.count s.lives c.args.life (omega arith) s.each (omega arith, omega arith, omega arith), tt))))
+    record {
+      some = s.some;
+      most = s.most;
+      few = omega arith;
+      each = each_more s.interval s.count s.lives c.args.life (omega arith) s.each (omega arith, omega arith, omega arith);
+    }
 
 pub returns : goal.returns
 returns c =
