@@ -1,5 +1,5 @@
 -- Tokens by their cases, and operands.
-use Rattle.std.proofs.Common.{◌≡◌, ℕ, ◌≤◌, Bool, true, false, cond, ◌||◌, eqb, List, length, get_or, drop, pos, neg_ℤ, sym, refl, ap, ◌∙◌, subst}
+use Rattle.std.proofs.Common.{◌≡◌, ℕ, ◌≤◌, true, false, cond, ◌||◌, eqb, List, length, get_or, drop, pos, neg_ℤ, sym, ap, ◌∙◌, subst}
 use Rattle.std.proofs.lemmas.Bool.{eq-eqb, ne_eqb}
 use Rattle.model.specs.Shapes.{is_name, is_number, is_earlier, is_negative, name_of, after_at, value}
 use Rattle.model.specs.LoopText.{name, numeral, written_by}

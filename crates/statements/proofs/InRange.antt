@@ -1,6 +1,6 @@
 -- Checks of numbers, some of them after others.
-use Rattle.std.proofs.Common.{◌≡◌, ℕ, Bool, true, false, cond, List, [], ◌∷◌, ◌++◌, Some, None, Ok, Err, Result, sym, refl, ap, ◌∙◌, arith}
-use Rattle.model.specs.Questions.{Refusal, Answer, good, bad, Check, each, no_or, unless}
+use Rattle.std.proofs.Common.{◌≡◌, ℕ, Bool, true, false, cond, List, [], ◌∷◌, ◌++◌, Some, None, Ok, Err, Result, refl, ap, arith}
+use Rattle.model.specs.Questions.{Refusal, bad, Check, each, no_or, unless}
 use Rattle.statements.specs.Statements.{in_range_or}
 
 module _ {X Y : Type 0} (x : X) (y : Result Y Refusal) (ds : List Check) where

@@ -1,14 +1,14 @@
 -- What one line of a loop text does, by its form.
-use Rattle.std.proofs.Common.{◌≡◌, ℕ, zero, suc, Bool, true, false, cond, not, ◌&&◌, leb, List, [], ◌∷◌, ◌++◌, length, Some, None, Ok, Err, codes, Option, Result, sym, refl, ap, ◌∙◌, subst, ⊎_elim, arith}
+use Rattle.std.proofs.Common.{◌≡◌, ℕ, Bool, true, false, cond, ◌&&◌, leb, List, [], ◌∷◌, ◌++◌, length, Some, None, Ok, Err, codes, Option, Result, sym, refl, ap, ◌∙◌, arith}
 use Rattle.std.proofs.lemmas.List.{append-nil}
-use Rattle.std.proofs.lemmas.Bool.{and_parts, cases_Bool}
+use Rattle.std.proofs.lemmas.Bool.{and_parts}
 use Rattle.model.specs.declared.Code.{Code}
 use Rattle.model.specs.declared.Code.TheVariants.{Load, Store, Add, Sub, Mul, Move}
 use Rattle.model.specs.Shapes.{every, between, has_some}
 use Rattle.model.specs.Lines.{Line, Lexeme, tokens, tok}
 use Rattle.model.specs.Questions.{Answer, good, bad, Refusal, at_line, each, no_or, unless, formed_by}
 use Rattle.model.specs.Loop.{Operation}
-use Rattle.model.specs.LoopText.{Use, Statement, form_of, formed, ranged_by, named_by, statement_by, statement_of, checks_by, operation_by, defined_by, name_in, memory_operations, statement_rules}
+use Rattle.model.specs.LoopText.{Use, Statement, form_of, formed, ranged_by, named_by, statement_by, checks_by, operation_by, defined_by, name_in, memory_operations, statement_rules}
 use Rattle.reader.specs.Rows.{nth_of, or_none}
 use Rattle.texts.specs.Seen.{wordy, line_step}
 use Rattle.statements.specs.Statements.{loop_form_in, load_in, store_in, binary_in, move_in, row_tokens, is_store, in_range_or, push_step, form_step}

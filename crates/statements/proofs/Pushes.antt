@@ -1,12 +1,11 @@
 -- One statement more.
-use Rattle.std.proofs.Common.{◌≡◌, ℕ, ◌+◌, ◌^◌, ◌<◌, ◌≤◌, Bool, true, false, cond, ◌&&◌, leb, List, [], ◌∷◌, ◌++◌, map, length, take, set, None, Ok, Err, sum_by, count_by, sym, refl, ap, ◌∙◌, arith}
+use Rattle.std.proofs.Common.{◌≡◌, ℕ, ◌+◌, ◌<◌, ◌≤◌, Bool, true, false, cond, leb, List, [], ◌∷◌, ◌++◌, length, take, set, None, Ok, Err, sym, refl, ap, ◌∙◌, arith}
 use mir.Val.{bool_byte}
 use Rattle.std.proofs.lemmas.List.{map_push, length_push, length-map, length-take-le, take_more_set}
 use Rattle.std.proofs.lemmas.List.Sums.{sum_by_push, count_by-le-length}
 use Rattle.std.proofs.lemmas.Bool.{le-leb, lt-leb}
 use Rattle.model.specs.Loop.{in_memory}
 use Rattle.model.specs.LoopText.{Statement, memory_operations}
-use Rattle.model.specs.Questions.{no_or, at_line, unless}
 use Rattle.statements.specs.declared.statement.Statement.{Statement as OwnStatement}
 use Rattle.statements.specs.Statements.{statement_seen, all_seen, push_step}
 

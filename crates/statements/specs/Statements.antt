@@ -1,5 +1,5 @@
 -- The statements of the code as the definitions have them.
-use Rattle.std.specs.Prelude.{ℕ, Bool, true, false, cond, ◌&&◌, List, [], ◌∷◌, ◌++◌, map, length, Some, None, Ok, Err, codes, Option, Result, nat_le}
+use Rattle.std.specs.Prelude.{ℕ, Bool, true, false, cond, ◌&&◌, List, [], ◌∷◌, ◌++◌, map, length, Some, None, Ok, codes, Option, Result, nat_le}
 use Rattle.std.specs.Str.{bytes_eq}
 use Rattle.model.specs.declared.Code.{Code}
 use Rattle.model.specs.declared.Code.TheVariants.{Load as LoadCode, Store as StoreCode, Add, Sub, Mul, Move as MoveCode}
@@ -8,7 +8,6 @@ use Rattle.model.specs.Questions.{Refusal, Check, asked, each, at_line, first_no
 use Rattle.model.specs.Loop.{Operation, load, store, binary, move}
 use Rattle.model.specs.LoopText.{Written, numeral, name, Use, Statement, memory_operations, checks_by, named_by, statement_by}
 use Rattle.reader.specs.Rows.{or_none}
-use Rattle.texts.specs.declared.fault.TextFault.{TextFault}
 use Rattle.texts.specs.declared.name.Name.{Name}
 use Rattle.statements.specs.declared.statement.Written.{Written as OwnWritten}
 use Rattle.statements.specs.declared.statement.Written.TheVariants.{Numeral, Named}
@@ -17,7 +16,6 @@ use Rattle.statements.specs.declared.statement.Cell.{Cell}
 use Rattle.statements.specs.declared.statement.Action.{Action}
 use Rattle.statements.specs.declared.statement.Action.TheVariants.{Load, Store, Binary, Move}
 use Rattle.statements.specs.declared.statement.Statement.{Statement as OwnStatement}
-use Rattle.texts.specs.Faults.{refusal}
 use Rattle.texts.specs.Seen.{name_seen, text, wordy, digits, is_none}
 
 abbrev pub written_seen : OwnWritten → Written

@@ -1,4 +1,4 @@
-use Rattle.std.proofs.Common.{◌≡◌, ◌-◌, [], ◌∷◌, take, Some, None, Ok, Err, sym, ap, ◌∙◌, arith}
+use Rattle.std.proofs.Common.{◌≡◌, ◌-◌, [], ◌∷◌, take, Some, None, Ok, Err, ap, ◌∙◌, arith}
 use Rattle.std.proofs.lemmas.Result.{err_from_is_err_and}
 use Rattle.model.specs.Questions.{no_or, unless}
 use Rattle.model.specs.LoopText.{named_by, name_in, defined_by}
@@ -6,8 +6,7 @@ use Rattle.reader.specs.Seen.{shown}
 use Rattle.reader.specs.Rows.{or_none}
 use Rattle.texts.specs.Faults.{refusal}
 use Rattle.texts.specs.Seen.{told}
-use Rattle.statements.specs.Statements.{all_seen, defined_seen, action_seen}
-use Rattle.texts.specs.Seen.{answered}
+use Rattle.statements.specs.Statements.{all_seen}
 use Rattle.statements.proofs.LoopSteps.{form_3, form_4, form_6}
 use Rattle.statements.proofs.loop_text.form_line.Goals as goal
 

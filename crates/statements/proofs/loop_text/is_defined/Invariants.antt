@@ -1,5 +1,4 @@
 use Rattle.std.proofs.Common.{◌≡◌, drop}
-use Rattle.model.specs.Shapes.{some}
 use Rattle.model.specs.LoopText.{is_defined}
 use Rattle.statements.specs.Statements.{all_seen}
 use Rattle.statements.proofs.loop_text.is_defined.Given as goal

@@ -1,4 +1,4 @@
-use Rattle.std.proofs.Common.{◌≡◌, true, leb, length, take, Some, None, sym, ap, ◌∙◌, arith, length-take}
+use Rattle.std.proofs.Common.{◌≡◌, true, leb, length, take, Some, sym, ◌∙◌, arith, length-take}
 use Rattle.std.proofs.lemmas.List.{length-map}
 use Rattle.std.proofs.lemmas.Bool.{le-leb}
 use Rattle.model.specs.Shapes.{every, between}
@@ -6,7 +6,7 @@ use Rattle.model.specs.Lines.{Line, tokens}
 use Rattle.model.specs.LoopText.{form_of, memory_operations}
 use Rattle.reader.specs.Seen.{shown}
 use Rattle.reader.proofs.Walk.{kind_fits, tok_same, name_at}
-use Rattle.statements.specs.Statements.{all_seen, statement_seen, loop_form_in}
+use Rattle.statements.specs.Statements.{all_seen, statement_seen}
 use Rattle.texts.proofs.LineSteps.{none_shown, some_shown}
 use Rattle.statements.proofs.LoopSteps.{form_same, begins_named, from_row, line_1, line_2, line_3, line_form}
 use Rattle.statements.proofs.loop_text.loop_line.Goals as goal

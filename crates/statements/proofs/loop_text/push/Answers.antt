@@ -1,4 +1,4 @@
-use Rattle.std.proofs.Common.{◌≡◌, ◌<◌, ◌≤◌, true, length, sym, refl, ap, ◌∙◌, arith, length-set}
+use Rattle.std.proofs.Common.{◌≡◌, length, refl, ◌∙◌, arith, length-set}
 use Rattle.statements.proofs.Pushes.{full, too_many, room, counts_on, pushed}
 use Rattle.statements.proofs.loop_text.push.Goals as goal
 
@@ -26,7 +26,12 @@ invariant_of-m c =
     let m = c.args.m.now in
     let long : length m.items ≡ 32 = omega arith in
     let counted = counts_on m.items m.count m.in_memory c.from.result c.in_memory.result c.args.s (omega arith) m.counted c.from.ensures c.in_memory.ensures c.if-n-ge32.false (omega (arith, c.if-n-ge32.false)) in
-    (length-set m.items m.count c.args.s ∙ long, (omega (arith, c.if-n-ge32.false), (omega (arith, c.if-touches-gt16.false), (counted, tt))))
+    record {
+      whole = length-set m.items m.count c.args.s ∙ long;
+      few = omega (arith, c.if-n-ge32.false);
+      light = omega (arith, c.if-touches-gt16.false);
+      counted = counted;
+    }
 
 pub returns : goal.returns
 returns c =

@@ -1,4 +1,4 @@
-use Rattle.statements.proofs.ByCase.{number_token, distance_part, negative_part}
+use Rattle.statements.proofs.ByCase.{number_token, distance_part}
 use Rattle.statements.proofs.operands.operand_fine.Goals as goal
 
 pub value_of-requires : goal.value_of-requires
