@@ -1,5 +1,5 @@
 -- What a reservation table holds, and what its methods answer.
-use Rattle.std.specs.Prelude.{◌≡◌, ℕ, ◌+◌, ◌<◌, ◌≤◌, Bool, true, false, not, ◌&&◌, List, length, slice_index}
+use Rattle.std.specs.Prelude.{◌≡◌, ℕ, ◌<◌, ◌≤◌, Bool, true, false, not, ◌&&◌, List, length, slice_index}
 use Rattle.model.specs.declared.Timing.{Timing}
 use Rattle.reservation.specs.Cells.{cell, bookable}
 use Rattle.search_laws.specs.Counts.{Added, Has, over_in}

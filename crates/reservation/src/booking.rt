@@ -59,6 +59,19 @@ impl ReservationTable {
         })
     }
 
+    // The uses of a class in a row.
+    pub fn in_use(&self, class: usize, row: usize) -> usize
+        ensures inside { class < 8 → row < 256 → result ≡ count self.now class row }
+        ensures held { class < 8 → result ≤ units_of self.now class }
+        ensures outside { ((class < 8) × (row < 256) → ⊥) → result ≡ 0 }
+    {
+        if class < CLASSES && row < 256 {
+            self.rows.counts[class * 256 + row] as usize
+        } else {
+            0
+        }
+    }
+
     // With an operation at `time` a row would be overfull.
     fn overfull(&self, class: usize, time: usize, busy: usize, row: usize) -> bool
         requires { (class < 8) × ((time + busy < 131072) × (row < 256)) }

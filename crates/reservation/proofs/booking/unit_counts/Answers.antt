@@ -1,4 +1,4 @@
-use Rattle.std.proofs.Common.{◌≡◌, ℕ, ◌<◌, ◌≤◌, get_or, sym, ap, ◌∙◌, subst, arith, rules, below_more}
+use Rattle.std.proofs.Common.{◌≤◌, get_or, arith, rules, below_more}
 use Rattle.reservation.proofs.Cells.{copied_none, copied_more, copied_all, few_units}
 use Rattle.reservation.proofs.booking.unit_counts.Goals as goal
 

@@ -1,4 +1,4 @@
-use Rattle.std.proofs.Common.{arith, rules}
+use Rattle.std.proofs.Common.{arith}
 use Rattle.reservation.proofs.Cells.{room_for, within_add}
 use Rattle.reservation.proofs.table.ReservationTable.book.Goals as goal
 
@@ -12,4 +12,4 @@ pub invariant_of-self : goal.invariant_of-self
 invariant_of-self c =
     let t = c.args.self.now in
     let room = room_for t.interval c.args.timing.class c.args.time c.args.timing.busy t.rows.counts t.units t.held c.if-not-fits.ensures in
-    (within_add t.interval c.args.timing.class c.args.time c.args.timing.busy t.rows.counts _ t.units c.add.ensures t.held room.3, (t.positive, (t.small, (t.few, tt))))
+    record { held = within_add t.interval c.args.timing.class c.args.time c.args.timing.busy t.rows.counts _ t.units c.add.ensures t.held room.3; positive = t.positive; small = t.small; few = t.few }

@@ -1,8 +1,6 @@
-use Rattle.std.proofs.Common.{◌≡◌, ℕ, ◌+◌, ◌%◌, ◌<◌, ◌≤◌, true, false, sym, refl, ap, ◌∙◌, mod-lt, arith, rules, below_more}
-use Rattle.std.proofs.lemmas.Bool.{both_ways}
-use Rattle.model.specs.Schedule.{uses}
+use Rattle.std.proofs.Common.{refl, arith}
 use Rattle.reservation.specs.Views.{count}
-use Rattle.reservation.proofs.Cells.{bookable_parts, has_from}
+use Rattle.reservation.proofs.Cells.{has_from}
 use Rattle.reservation.proofs.table.ReservationTable.holds.Goals as goal
 
 pub returns : goal.returns

@@ -1,4 +1,4 @@
-use Rattle.std.proofs.Common.{◌≡◌, ℕ, ◌+◌, ◌*◌, ◌%◌, ◌<◌, ◌≤◌}
+use Rattle.std.proofs.Common.{ℕ, ◌+◌, ◌%◌, ◌<◌, ◌≤◌}
 use Rattle.model.specs.Schedule.{uses}
 use Rattle.reservation.specs.Views.{count}
 use Rattle.reservation.proofs.table.ReservationTable.holds.Given as goal

@@ -1,4 +1,4 @@
-use Rattle.std.proofs.Common.{sym, refl, arith, rules}
+use Rattle.std.proofs.Common.{sym, refl, arith}
 use Rattle.reservation.proofs.Cells.{bookable_parts, within_take}
 use Rattle.reservation.proofs.table.ReservationTable.release.Goals as goal
 
@@ -11,7 +11,7 @@ take-requires c =
 pub invariant_of-self : goal.invariant_of-self
 invariant_of-self c =
     let t = c.args.self.now in
-    (within_take t.interval c.args.timing.class c.args.time c.args.timing.busy t.rows.counts _ t.units c.take.ensures t.held, (t.positive, (t.small, (t.few, tt))))
+    record { held = within_take t.interval c.args.timing.class c.args.time c.args.timing.busy t.rows.counts _ t.units c.take.ensures t.held; positive = t.positive; small = t.small; few = t.few }
 
 pub returns : goal.returns
 returns c = (c.if-not-holds.ensures.0 refl, c.take.ensures, record { units = refl; interval = refl })
