@@ -1,7 +1,7 @@
 -- Steps of the loops over statements.
-use Rattle.std.proofs.Common.{◌≡◌, ℕ, suc, ◌+◌, ◌<◌, ◌≤◌, Bool, true, false, cond, List, [], ◌∷◌, ◌++◌, map, length, get_or, drop, Some, None, Option, sym, refl, ap, ◌∙◌, arith}
+use Rattle.std.proofs.Common.{◌≡◌, ℕ, ◌+◌, ◌<◌, ◌≤◌, Bool, true, false, cond, List, [], ◌∷◌, ◌++◌, length, get_or, drop, Some, None, sym, refl, ap, ◌∙◌, arith}
 use Rattle.std.proofs.lemmas.List.{at_drop_more, at_drop_all}
-use Rattle.model.specs.Questions.{Answer, good, bad, Refusal, each, no_or}
+use Rattle.model.specs.Questions.{Answer, good, bad, Refusal, no_or}
 use Rattle.model.specs.Loop.{operands}
 use Rattle.model.specs.LoopText.{Use, Statement, same_name, definer, known_use, uses_of}
 use Rattle.statements.specs.declared.statement.Statement.{Statement as OwnStatement}

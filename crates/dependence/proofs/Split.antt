@@ -2,9 +2,9 @@
 use Rattle.std.proofs.Common.{◌≡◌, ℕ, ◌+◌, ◌<◌, leb, List, [], ◌∷◌, ◌++◌, map, length, get_or, take, set, Some, None, Ok, Err, Option, Result, sym, refl, ap, ◌∙◌, arith}
 use Rattle.std.proofs.lemmas.List.{map_push, take_more, take_more_set}
 use Rattle.model.specs.Lines.{Line, lines_of}
-use Rattle.model.specs.Questions.{Answer, good, bad, Refusal, asked, at_line, first_no, no_or, unless, read_lines, before, reading}
+use Rattle.model.specs.Questions.{Answer, good, bad, Refusal, at_line, first_no, no_or, unless, read_lines, before, reading}
 use Rattle.model.specs.Loop.{Operation, Operand, on_operands}
-use Rattle.model.specs.LoopText.{Use, Statement, statement_rules, loop_rules, uses_of, resolved, loop_of, on_ok}
+use Rattle.model.specs.LoopText.{Statement, statement_rules, loop_rules, uses_of, resolved, loop_of, on_ok}
 use Rattle.model.specs.Faults.{on_err, text_fault}
 use Rattle.texts.specs.declared.fault.TextFault.{TextFault}
 use Rattle.texts.specs.declared.fault.TextFault.TheVariants.{TooLong, Unprintable, NoForm, OutOfRange, WrongName, ManyClasses, CodeMissing, ManyOperations, NoOperation}

@@ -1,4 +1,4 @@
-use Rattle.std.proofs.Common.{◌≡◌, ◌<◌, map, length, take, sym, refl, ap, ◌∙◌, arith, length-set}
+use Rattle.std.proofs.Common.{◌≡◌, map, take, sym, ap, ◌∙◌, arith, length-set}
 use mathlib.Core.List.{map-map}
 use Rattle.model.specs.Soundness.{code_of, timing_of}
 use Rattle.texts.specs.Records.{machine_seen}

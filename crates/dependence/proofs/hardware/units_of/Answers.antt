@@ -1,4 +1,4 @@
-use Rattle.std.proofs.Common.{◌≡◌, ◌<◌, ◌≢◌, map, length, take, sym, refl, ap, ◌∙◌, arith, length-set, get_or-set_other}
+use Rattle.std.proofs.Common.{◌≡◌, ◌≢◌, map, length, take, sym, ap, ◌∙◌, arith, length-set, get_or-set_other}
 use mathlib.Core.List.{map-map}
 use Rattle.texts.specs.Seen.{class_seen}
 use Rattle.dependence.proofs.Filled.{filled}

@@ -1,4 +1,4 @@
-use Rattle.std.proofs.Common.{◌≡◌, sym, ap, ◌∙◌}
+use Rattle.std.proofs.Common.{sym, ◌∙◌}
 use Rattle.dependence.proofs.Definers.{at_end, hit, miss}
 use Rattle.dependence.proofs.reading.definer_of.Goals as goal
 

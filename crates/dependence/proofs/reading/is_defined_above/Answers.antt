@@ -1,4 +1,4 @@
-use Rattle.std.proofs.Common.{◌≡◌, ◌&&◌, ltb, sym, ap, ◌∙◌}
+use Rattle.std.proofs.Common.{◌&&◌, ltb, sym, ◌∙◌}
 use Rattle.model.specs.LoopText.{same_name}
 use Rattle.statements.specs.Statements.{statement_seen}
 use Rattle.statements.proofs.Uses.{some_yes, some_no, some_end}

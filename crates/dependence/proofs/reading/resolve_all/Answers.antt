@@ -1,6 +1,5 @@
-use Rattle.std.proofs.Common.{◌≡◌, map, length, take, sym, ap, ◌∙◌, arith, length-set}
+use Rattle.std.proofs.Common.{◌≡◌, map, length, take, ap, ◌∙◌, arith, length-set}
 use Rattle.std.proofs.lemmas.List.{take_all}
-use Rattle.model.specs.LoopText.{loop_of}
 use Rattle.statements.specs.Statements.{all_seen}
 use Rattle.dependence.specs.Operations.{operations_seen}
 use Rattle.dependence.proofs.Split.{resolve_more, looked_up}
