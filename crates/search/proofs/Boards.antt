@@ -1,11 +1,11 @@
 -- Boards stay sound.
-use Rattle.std.proofs.Common.{◌≡◌, ℕ, zero, suc, ◌+◌, ◌-◌, ◌*◌, ◌<◌, ◌≤◌, max, Bool, true, false, cond, not, ◌&&◌, ◌||◌, eqb, List, [], ◌∷◌, length, get_or, Some, None, Option, unwrap_or, sym, refl, ap, ◌∙◌, subst, ap₂, subst₂, inl, inr, add-one, arith}
-use Rattle.std.proofs.lemmas.Bool.{eq-eqb, ne_eqb, and_from}
+use Rattle.std.proofs.Common.{◌≡◌, ℕ, zero, suc, ◌+◌, ◌<◌, ◌≤◌, max, Bool, true, cond, ◌&&◌, ◌||◌, eqb, List, length, get_or, Some, None, Option, unwrap_or, sym, refl, ap, ◌∙◌, subst, ap₂, subst₂, add-one, arith}
+use Rattle.std.proofs.lemmas.Bool.{and_from}
 use Rattle.model.specs.declared.Timing.{Timing}
 use Rattle.model.specs.Limits.{timing, hardware}
 use Rattle.model.specs.declared.Edge.{Edge}
 use Rattle.model.specs.Search.{Times, without, first, fits, crowded, early, torn, fallback, slot}
-use Rattle.search_laws.specs.Counts.{Added, Has, Room, Held, Less, Put, Tied}
+use Rattle.search_laws.specs.Counts.{Room, Held, Less, Put, Tied}
 use Rattle.search_laws.specs.Bounded.{Roomy}
 use Rattle.search_laws.specs.Weights.{weight, early_by, asked, unmet, torn_by}
 use Rattle.search_laws.proofs.Weights.{early_weights, torn_weights}

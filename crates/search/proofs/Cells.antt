@@ -1,21 +1,17 @@
 -- The search's arrays.
-use Rattle.std.proofs.Common.{◌≡◌, ℕ, zero, suc, ◌+◌, ◌-◌, ◌*◌, ◌<◌, ◌≤◌, max, Bool, true, false, cond, not, ◌&&◌, ◌||◌, eqb, ltb, leb, List, [], ◌∷◌, length, get_or, take, set, replicate, Some, None, Option, sym, refl, ap, ◌∙◌, subst, inl, inr, add-one, arith}
-use Rattle.std.specs.List.{AllByRecursion as All}
-use Rattle.std.proofs.ByRecursion.{All-get_or}
-use Rattle.std.proofs.lemmas.List.{get_or-set_same, get_or-set_other, get_or_past, take_all}
-use Rattle.std.proofs.lemmas.Bool.{cases_eq, cases_lt, cases_Bool, eq-eqb, ne_eqb, and_parts, and_from, and_left, and_right, lt-ltb, le-leb, both_ways}
+use Rattle.std.proofs.Common.{◌≡◌, ℕ, ◌+◌, ◌*◌, ◌<◌, ◌≤◌, Bool, true, false, cond, not, ◌&&◌, eqb, List, [], length, get_or, take, set, replicate, Some, None, sym, refl, ap, ◌∙◌, inl, inr, arith}
+use Rattle.std.proofs.lemmas.List.{get_or-set_same, get_or-set_other}
+use Rattle.std.proofs.lemmas.Bool.{cases_eq, eq-eqb, ne_eqb, and_from, and_left, and_right, lt-ltb, le-leb, both_ways}
 use Rattle.model.specs.declared.Edge.{Edge}
 use Rattle.model.specs.declared.Timing.{Timing}
-use Rattle.model.specs.Limits.{EdgeFits}
-use Rattle.model.specs.Search.{Times, put}
-use Rattle.graph_laws.proofs.Steps.{zeros, loss_fits}
-use Rattle.search_laws.specs.Counts.{Added, Has, Room, Held, over_in, Less, Put}
-use Rattle.search_laws.specs.Weights.{lifted, weight, early_by, asked}
+use Rattle.graph_laws.proofs.Steps.{zeros}
+use Rattle.search_laws.specs.Counts.{Added, Has, Room, Less, Put}
+use Rattle.search_laws.specs.Weights.{lifted, weight}
 use Rattle.search_laws.proofs.Weights.{weight_more, weight_none}
 use Rattle.search_laws.proofs.Crowds.{room_not_over}
 use Rattle.reservation.specs.Cells.{bookable}
 use Rattle.reservation.specs.Times.{times_of, Replaced}
-use Rattle.reservation.specs.Views.{count, units_of, fits_of, Alike, Booked, Released}
+use Rattle.reservation.specs.Views.{count, units_of, Alike, Booked, Released}
 use Rattle.reservation.specs.declared.table.ReservationTable.{ReservationTable}
 use Rattle.reservation.specs.declared.time_table.TimeTable.{TimeTable}
 

@@ -1,5 +1,5 @@
 -- A search under way, as the program has it.
-use Rattle.std.proofs.Common.{◌≡◌, ℕ, zero, suc, ◌+◌, ◌-◌, ◌*◌, ◌<◌, ◌≤◌, Bool, true, false, List, [], ◌∷◌, length, get_or, sym, refl, ap, ◌∙◌, subst, ap₂, subst₂, inl, inr, arith}
+use Rattle.std.proofs.Common.{◌≡◌, ℕ, ◌<◌, ◌≤◌, List, length, get_or, sym, ap, ◌∙◌, subst, ap₂, inl, inr, arith}
 use mathlib.Core.Path.{fun_ext}
 use Rattle.std.specs.List.{AllByRecursion as All}
 use Rattle.std.proofs.lemmas.List.{get_or_past}
@@ -7,14 +7,13 @@ use Rattle.std.proofs.lemmas.Bool.{cases_lt}
 use Rattle.model.specs.declared.Edge.{Edge}
 use Rattle.model.specs.declared.Timing.{Timing}
 use Rattle.model.specs.Loop.{Hardware}
-use Rattle.model.specs.Limits.{timing, hardware, EdgeFits, GraphFits, MachineFits, TimingFits}
+use Rattle.model.specs.Limits.{timing, hardware, EdgeFits, MachineFits}
 use Rattle.model.specs.Search.{State, step}
 use Rattle.graph_laws.proofs.Top.{timing_at, units_at}
-use Rattle.search_laws.specs.Bounded.{Roomy}
 use Rattle.search_laws.specs.Counts.{Low}
 use Rattle.search_laws.specs.Weights.{weight}
 use Rattle.search_laws.proofs.Steps.{Going, going_low}
-use Rattle.reservation.specs.Views.{Alike, FewUnits, Possible}
+use Rattle.reservation.specs.Views.{Alike, Possible}
 use Rattle.reservation.specs.declared.table.ReservationTable.{ReservationTable}
 use Rattle.search.specs.Views.{weights_of, Fitting}
 use Rattle.search.specs.Weighed.{Weighed}

@@ -1,5 +1,5 @@
 -- A board, and a search as it stands.
-use Rattle.std.specs.Prelude.{ℕ, List, length}
+use Rattle.std.specs.Prelude.{List, length}
 use Rattle.model.specs.Loop.{Hardware}
 use Rattle.model.specs.Limits.{hardware}
 use Rattle.model.specs.declared.Timing.{Timing}

@@ -1,7 +1,7 @@
-use Rattle.std.proofs.Common.{ℕ, ◌*◌, ◌<◌, ◌≤◌, refl, arith, rules, below_more}
+use Rattle.std.proofs.Common.{refl, arith}
 use Rattle.std.proofs.lemmas.Bool.{both_ways}
 use Rattle.std.proofs.lemmas.Nat.{mul-le}
-use Rattle.model.specs.Limits.{hardware, timing}
+use Rattle.model.specs.Limits.{timing}
 use Rattle.graph_laws.proofs.Top.{timing_at, units_at}
 use Rattle.search.proofs.run.alone_fit.Goals as goal
 

@@ -1,10 +1,10 @@
-use Rattle.std.proofs.Common.{◌≡◌, length, get_or, sym, refl, ap, ◌∙◌, arith, rules}
+use Rattle.std.proofs.Common.{length, get_or, refl, arith}
 use Rattle.graph_laws.proofs.Steps.{widened}
 use Rattle.search_laws.proofs.Plan.{short_edges}
 use Rattle.search_laws.proofs.Ties.{tied_none}
-use Rattle.search_laws.proofs.Steps.{Going, going_start, going_out, going_found, going_on}
+use Rattle.search_laws.proofs.Steps.{going_start, going_out, going_found, going_on}
 use Rattle.reservation.specs.Views.{count}
-use Rattle.search.specs.Boards.{hw_of, placed_on, state_of}
+use Rattle.search.specs.Boards.{hw_of, state_of}
 use Rattle.search.proofs.Boards.{roomy_alike, alike_both}
 use Rattle.search.proofs.Runs.{step_back, weighed_now, low_now}
 use Rattle.search.proofs.run.run.Goals as goal

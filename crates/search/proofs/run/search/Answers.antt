@@ -1,5 +1,4 @@
-use Rattle.std.proofs.Common.{◌≡◌, length, get_or, sym, refl, ap, ◌∙◌, ap₂, subst₂, arith, rules}
-use Rattle.model.specs.Limits.{hardware}
+use Rattle.std.proofs.Common.{length, get_or, sym, refl, ◌∙◌, ap₂, subst₂}
 use Rattle.model.specs.Search as model
 use Rattle.search_laws.specs.Bounded.{Roomy}
 use Rattle.search.proofs.Runs.{fitting_from, possible_from, same_hardware}

@@ -1,4 +1,4 @@
-use Rattle.std.proofs.Common.{◌≡◌, ◌+◌, ◌-◌, sym, ◌∙◌, arith, rules}
+use Rattle.std.proofs.Common.{◌+◌, ◌-◌, arith}
 use Rattle.search_laws.proofs.Steps.{first_hit, first_miss, first_end}
 use Rattle.search.proofs.slot.window.Goals as goal
 

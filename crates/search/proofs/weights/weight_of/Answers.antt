@@ -1,4 +1,4 @@
-use Rattle.std.proofs.Common.{arith, rules}
+use Rattle.std.proofs.Common.{arith}
 use Rattle.graph_laws.proofs.Steps.{loss_fits}
 use Rattle.search.proofs.weights.weight_of.Goals as goal
 

@@ -1,4 +1,4 @@
-use Rattle.std.proofs.Common.{◌≡◌, length, sym, ◌∙◌, arith, rules}
+use Rattle.std.proofs.Common.{length, sym, ◌∙◌, arith}
 use Rattle.search_laws.proofs.Crowds.{other_class, not_there}
 use Rattle.reservation.specs.Views.{count}
 use Rattle.search.specs.Boards.{hw_of, placed_on}

@@ -1,4 +1,4 @@
-use Rattle.std.proofs.Common.{arith, rules}
+use Rattle.std.proofs.Common.{arith}
 use Rattle.search.proofs.Boards.{placed}
 use Rattle.search.proofs.board.Board.place.Goals as goal
 

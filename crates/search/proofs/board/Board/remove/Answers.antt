@@ -1,6 +1,5 @@
-use Rattle.std.proofs.Common.{◌≡◌, sym, refl, ◌∙◌, arith, rules}
+use Rattle.std.proofs.Common.{sym, ◌∙◌, arith}
 use Rattle.search.proofs.Boards.{removed}
-use Rattle.search_laws.proofs.Ties.{less_nothing}
 use Rattle.search.proofs.board.Board.remove.Goals as goal
 
 pub returns-in-Some : goal.returns-in-Some

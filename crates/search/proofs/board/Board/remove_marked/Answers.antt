@@ -1,4 +1,4 @@
-use Rattle.std.proofs.Common.{◌≡◌, refl, arith, rules}
+use Rattle.std.proofs.Common.{refl}
 use Rattle.search_laws.proofs.Ties.{unmarked_none, unmarked_more, unmarked_same}
 use Rattle.search.proofs.Boards.{alike_both}
 use Rattle.search.proofs.board.Board.remove_marked.Goals as goal

@@ -1,4 +1,4 @@
-use Rattle.std.proofs.Common.{◌≡◌, is_some, sym, ap, ◌∙◌, arith, rules}
+use Rattle.std.proofs.Common.{is_some, sym, ap, ◌∙◌}
 use Rattle.search_laws.proofs.Steps.{all_more, all_fails}
 use Rattle.search.proofs.state.Progress.complete.Goals as goal
 

@@ -1,4 +1,4 @@
-use Rattle.std.proofs.Common.{◌≡◌, length, sym, refl, ap, ◌∙◌, arith, rules}
+use Rattle.std.proofs.Common.{length, refl, ◌∙◌, arith}
 use Rattle.model.specs.Search.{crowded, torn}
 use Rattle.search_laws.proofs.Steps.{unmarked_is, stays_none, placed_is}
 use Rattle.reservation.specs.Times.{times_of}

@@ -1,4 +1,4 @@
-use Rattle.std.proofs.Common.{◌≡◌, length, get_or, refl, arith, rules}
+use Rattle.std.proofs.Common.{length, get_or, refl, arith}
 use Rattle.search.specs.Boards.{hw_of, placed_on, state_of}
 use Rattle.search_laws.proofs.Steps.{pick_free, step_some, step_none}
 use Rattle.search.proofs.Boards.{slot_of, slot_small}
