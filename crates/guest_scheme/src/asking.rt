@@ -14,8 +14,8 @@ pub fn register<S: Scheme>(
     pass: usize,
     back: usize,
 ) -> usize
-    ensures { turns ≡ (meaning scheme.now).turns → variable < (meaning scheme.now).variables → back ≤ 14 → back ≤ pass →
-        result ≡ place scheme.now variable (pass - back) }
+    ensures { turns ≡ (S.meaning scheme.now).turns → variable < (S.meaning scheme.now).variables → back ≤ 14 → back ≤ pass →
+        result ≡ S.place scheme.now variable (pass - back) }
 {
     if turns == 0 {
         return 0;

@@ -3,7 +3,7 @@ ghost use Rattle.std.specs.Prelude.{◌≡◌};
 ghost use Rattle.registers.specs.Views.{table};
 ghost use Rattle.guest_scheme.specs.Lane.{short, lanes_with};
 ghost use Rattle.guest_scheme.specs.LaneMeaning.{lanes_meaning};
-ghost use Rattle.std.proofs.Common.{rules, arith};
+ghost use Rattle.std.proofs.Common.{refl, rules};
 
 use crate::lanes::Lanes;
 use registers::lives::Lives;
@@ -35,9 +35,9 @@ impl Scheme for Lanes {
 
     ghost place = { λ s. (lanes_meaning s).place };
 
-    ghost placed = { first_of (Prim.search rules, Prim.grind (arith, Self.row.coded.inj)) };
+    ghost placed = { λ _. refl };
 
-    ghost lawful = { first_of (Prim.search rules, Prim.grind (arith, Self.row.coded.inj)) };
+    ghost lawful = { λ s. Prim.search rules };
 
     fn file(&self) -> usize {
         256

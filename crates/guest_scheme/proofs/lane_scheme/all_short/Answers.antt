@@ -1,4 +1,4 @@
-use Rattle.std.proofs.Common.{◌≡◌, ◌∙◌, ap₂}
+use Rattle.std.proofs.Common.{◌∙◌, ap₂}
 use Rattle.guest_scheme.specs.Lane.{short}
 use Rattle.guest_scheme.proofs.Short.{short_more, too_long, short_all}
 use Rattle.guest_scheme.proofs.lane_scheme.all_short.Goals as goal

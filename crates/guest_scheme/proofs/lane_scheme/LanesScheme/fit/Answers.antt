@@ -1,4 +1,4 @@
-use Rattle.std.proofs.Common.{◌≡◌, ◌<◌, cond, eqb, length, sym, ap}
+use Rattle.std.proofs.Common.{eqb, length, sym, ap}
 use Rattle.std.proofs.lemmas.Bool.{eq-eqb, ne_eqb, cond-true, cond-false}
 use Rattle.registers.specs.Views.{table}
 use Rattle.guest_scheme.proofs.Short.{accepts}
