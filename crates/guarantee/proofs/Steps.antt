@@ -16,6 +16,7 @@ use Rattle.model.specs.Pipelining.{InMemory}
 use Rattle.model.specs.Listing.{Slot, slots_of}
 use Rattle.model.specs.Plan as plans
 use Rattle.model.specs.Plan.{IsPlan}
+use Rattle.schedule_laws.specs.Alike.{IsPlanned}
 use Rattle.guarantee.specs.Calls.{Buffers, Call, machine, loop, plan, expand, run, Standing, nothing, with_machine, with_loop, with_plan, with_listing, machine_in, Body, loop_in, PlannedBody, plan_in, ListedBody, listing_in, Planned, State, Answer, accepted, planned, expanded, ran, refused, not_standing, no_schedule, many_trips, short_files, outside_memory}
 use Rattle.guarantee.specs.PlainPacker.{Reply, done, leaves, refuses, Refusal, Needs, Read, Planning, Expanding, Running, PlainCall}
 use Rattle.guarantee.specs.Guarantees.{plainly, PlanHolds, listing_of, listed_form, StandsSound, values_in, waiting_in, machine_left, SoundRun, Present, Sound, Guaranteed}
@@ -158,6 +159,11 @@ module _ {S V : Type 0} (meaning : S → Meaning) (place : S → ℕ → ℕ →
       IsPlan b.ops (edges b.ops (hardware b.machine b.ops)) (hardware b.machine b.ops) (length b.machine.classes)
       (meaning s.scheme).need (meaning s.scheme).file lowest p
 
+  abbrev PlannedOf : Body → Planned → Type 0
+  PlannedOf b p =
+      IsPlanned b.ops (edges b.ops (hardware b.machine b.ops)) (hardware b.machine b.ops) (length b.machine.classes)
+      (meaning s.scheme).need (meaning s.scheme).file p.minimum p.schedule p.steps
+
   pub plan_early : loop_in s.stands ≡ None → Guaranteed meaning place dom s plan (refused not_standing) plan s
   plan_early e = kept plan not_standing (needs_none was (refuses not_standing) was (loop_in was) _ (plain_loop s.stands ∙ e) (refl, refl))
 
@@ -166,14 +172,14 @@ module _ {S V : Type 0} (meaning : S → Meaning) (place : S → ℕ → ℕ →
       kept plan no_schedule (needs_some was (refuses no_schedule) was (loop_in was) (Planning dom _ _ was (refuses no_schedule) was) b (plain_loop s.stands ∙ e) (lowest, (plans.refused, (is, (refl, refl)))))
 
   pub plan_accepted : (b : Body) (after : S) (p : Planned) → loop_in s.stands ≡ Some b → sound_machine b.machine ≡ true → sound_loop b.ops ≡ true →
-      Lawful (meaning after) → (meaning after).place ≡ place after → PlanOf b p.minimum (plans.planned p.schedule p.steps) →
+      Lawful (meaning after) → (meaning after).place ≡ place after → PlannedOf b p →
       IsEvidence (edges b.ops (hardware b.machine b.ops)) (hardware b.machine b.ops) (length b.ops) (length b.machine.classes) p.minimum p.evidence →
       p.stages ≡ stages p.schedule (length b.ops) →
       Accepted (meaning s.scheme) (meaning after) (place after) (lives_table b.ops (hardware b.machine b.ops) p.schedule) p.turns →
       Guaranteed meaning place dom s plan (planned p) plan (record { stands = with_plan b.machine b.ops p; scheme = after; slots = [] })
   plan_accepted b after p e sm sl lawful placed is evidence deep taken = record {
     same = needs_some was done (with_plan b.machine b.ops p.schedule) (loop_in was) (Planning dom _ _ was done (with_plan b.machine b.ops p.schedule)) b (plain_loop s.stands ∙ e)
-        (p.minimum, (plans.planned p.schedule p.steps, (is, (refl, refl))));
+        (p.minimum, (plans.planned is.schedule p.steps, (is.is, (p.schedule, (is.alike, (refl, refl))))));
     reports = (refl, refl, refl, record { is = refl; accepts = taken });
     sound = (sm, sl, plan_holds b.machine b.ops sm sl p (meaning s.scheme) (meaning after) (place after) lawful placed is evidence deep taken);
     need = taken.need;

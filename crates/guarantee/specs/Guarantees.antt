@@ -21,9 +21,8 @@ use Rattle.model.specs.Driving as driving
 use Rattle.model.specs.Driving.{Waiting}
 use Rattle.model.specs.Pipelining.{before, Pipelined}
 use Rattle.model.specs.Listing.{Slot, Listing, listing, slots_of, code_of_listing}
-use Rattle.model.specs.Plan as plans
-use Rattle.model.specs.Plan.{IsPlan}
 use Rattle.model.specs.SearchLaws.{SoundSchedule}
+use Rattle.schedule_laws.specs.Alike.{IsPlanned}
 use Rattle.guarantee.specs.Calls.{Buffers, Call, machine, loop, plan, expand, run, Standing, nothing, with_machine, with_loop, with_plan, with_listing, PlannedBody, plan_in, ListedBody, listing_in, Planned, State, Answer, accepted, planned, expanded, ran, refused}
 use Rattle.guarantee.specs.PlainPacker.{Reply, done, leaves, refuses, PlainCall}
 
@@ -64,9 +63,8 @@ pub record PlanHolds (scheme : Meaning) (m : Machine) (ops : Loop) (p : Planned)
   pub no_denser : (w : Schedule) → IsSchedule ops (hardware m ops) w → p.minimum ≤ w.interval
   pub excludes : Excludes ops (hardware m ops) p.minimum p.evidence
   -- the schedule is the plan's, after so many steps, and it is a schedule of at most eight stages
-  pub searched : IsPlan ops (edges ops (hardware m ops)) (hardware m ops) (length m.classes) scheme.need scheme.file p.minimum
-      (plans.planned p.schedule p.steps)
-  pub sound : SoundSchedule ops (hardware m ops) searched.height scheme.need scheme.file p.minimum p.schedule p.steps
+  pub searched : IsPlanned ops (edges ops (hardware m ops)) (hardware m ops) (length m.classes) scheme.need scheme.file p.minimum p.schedule p.steps
+  pub sound : SoundSchedule ops (hardware m ops) searched.is.height scheme.need scheme.file p.minimum p.schedule p.steps
   pub stages : p.stages ≡ stages p.schedule (length ops)
   -- the scheme, as it is now, accepted its lives
   pub lives : Keeps scheme (lives_table ops (hardware m ops) p.schedule)

@@ -13,6 +13,7 @@ use Rattle.model.specs.SearchLaws.{SoundSchedule}
 use Rattle.graph_laws.proofs.Fits.{edges_fit}
 use Rattle.graph_laws.proofs.Around.{no_standing_circuit}
 use Rattle.search_laws.proofs.Plan.{plan_is_sound}
+use Rattle.schedule_laws.proofs.Alike.{sound_same}
 use Rattle.schedule_laws.proofs.Machines.{on_machines}
 use Rattle.schedule.specs.declared.answer.Scheduled.{Scheduled}
 use Rattle.schedule.specs.declared.answer.NoSchedule.TheVariants.{Outside, Standing}
@@ -22,15 +23,17 @@ module _ {S : Type 0} (meaning : S → Meaning) (place : S → ℕ → ℕ → �
     (sm : sound_machine m ≡ true) (sl : sound_loop ops ≡ true) (own : es ≡ edges ops (hardware m ops)) where
   -- What is planned is a schedule, by the heights of the plan.
   pub sound_schedule : (p : Scheduled) → (h : Success meaning place m ops es before after p) →
-      SoundSchedule ops (hardware m ops) h.plan.height (meaning before).need (meaning before).file p.minimum.value (schedule_of p) p.steps
+      SoundSchedule ops (hardware m ops) h.plan.is.height (meaning before).need (meaning before).file p.minimum.value (schedule_of p) p.steps
   sound_schedule p h =
-      plan_is_sound ops (hardware m ops) (length m.classes) (meaning before).need (meaning before).file p.minimum.value (planned (schedule_of p) p.steps) (on_machines m ops sm sl)
+      sound_same ops (hardware m ops) (on_machines m ops sm sl).formed (schedule_of p) h.plan.schedule h.plan.alike h.plan.is.height (meaning before).need (meaning before).file
+      p.minimum.value p.steps
+      (plan_is_sound ops (hardware m ops) (length m.classes) (meaning before).need (meaning before).file p.minimum.value (planned h.plan.schedule p.steps) (on_machines m ops sm sl)
       (record {
-        minimum = subst (λ e. IsMinimum e (hardware m ops) (length ops) (length m.classes) p.minimum.value) own h.plan.minimum;
-        height = h.plan.height;
-        heights = subst (λ e. (k : ℕ) → p.minimum.value ≤ k → (u : ℕ) → IsHeight e k u (h.plan.height k u)) own h.plan.heights;
-        is = h.plan.is ∙ ap (λ e. plan ops e (hardware m ops) h.plan.height (meaning before).need (meaning before).file p.minimum.value) own;
-      })
+        minimum = subst (λ e. IsMinimum e (hardware m ops) (length ops) (length m.classes) p.minimum.value) own h.plan.is.minimum;
+        height = h.plan.is.height;
+        heights = subst (λ e. (k : ℕ) → p.minimum.value ≤ k → (u : ℕ) → IsHeight e k u (h.plan.is.height k u)) own h.plan.is.heights;
+        is = h.plan.is.is ∙ ap (λ e. plan ops e (hardware m ops) h.plan.is.height (meaning before).need (meaning before).file p.minimum.value) own;
+      }))
 
   -- There are no other answers but a plan and a refusal by the register scheme.
   pub never_outside : ScheduleOf meaning place m ops es before after (Err Outside) → ⊥

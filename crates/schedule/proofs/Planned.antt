@@ -82,7 +82,13 @@ module _ (m : Machine) (ops : Loop) (es : List Edge) (us : List Timing) (units :
           Success meaning place m ops es before after (record { minimum = min; interval = c.interval; times = c.times; steps = c.steps; stages = c.stages; turns = c.turns })
       succeeded c d =
           let at = subst₂ (λ x y. ChoiceOf meaning place ops es x y min.value before after (Some c)) timings counts d in
-          record { fits = graph_fits h.0; plan = plan_is _ at.0; evidence = evidence_of; fitted = at.1.fitted; stages = at.1.stages }
+          record {
+            fits = graph_fits h.0;
+            plan = record { schedule = at.0; alike = at.1.0; is = plan_is _ at.1.1 };
+            evidence = evidence_of;
+            fitted = at.1.2.fitted;
+            stages = at.1.2.stages;
+          }
 
       pub none_taken : ChoiceOf meaning place ops es us units min.value before after None → NoneTaken meaning m ops es before after
       none_taken d =

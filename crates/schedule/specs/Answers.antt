@@ -9,7 +9,8 @@ use Rattle.model.specs.Minimum.{IsEvidence, Standing as StandingEdges}
 use Rattle.model.specs.Schedule.{Schedule, stages as stages_in}
 use Rattle.model.specs.ScheduleLives.{lives_table}
 use Rattle.model.specs.Schemes.{Meaning}
-use Rattle.model.specs.Plan.{planned, refused, IsPlan}
+use Rattle.model.specs.Plan.{refused, IsPlan}
+use Rattle.schedule_laws.specs.Alike.{IsPlanned}
 use Rattle.bounds.specs.Answers.{evidence as evidence_of}
 use Rattle.registers.specs.Fits.{Fitted}
 use Rattle.lives.specs.Schedules.{scheduled}
@@ -23,7 +24,7 @@ schedule_of p = scheduled p.interval p.times
 -- The plan, the evidence for the minimum, and the scheme, which took the lives of the schedule.
 pub record Success {S : Type 0} (meaning : S → Meaning) (place : S → ℕ → ℕ → ℕ) (m : Machine) (ops : Loop) (es : List Edge) (before after : S) (p : Scheduled) : Type 0 where
   pub fits : GraphFits (length ops) es
-  pub plan : IsPlan ops es (hardware m ops) (length m.classes) (meaning before).need (meaning before).file p.minimum.value (planned (schedule_of p) p.steps)
+  pub plan : IsPlanned ops es (hardware m ops) (length m.classes) (meaning before).need (meaning before).file p.minimum.value (schedule_of p) p.steps
   pub evidence : IsEvidence es (hardware m ops) (length ops) (length m.classes) p.minimum.value (evidence_of p.minimum.witness)
   pub fitted : Fitted meaning place before after (lives_table ops (hardware m ops) (schedule_of p)) (Some p.turns)
   pub stages : p.stages ≡ stages_in (schedule_of p) (length ops)

@@ -8,6 +8,7 @@ use Rattle.model.specs.Schedule.{Schedule, stages as stages_in}
 use Rattle.model.specs.ScheduleLives.{lives_table}
 use Rattle.model.specs.Schemes.{Meaning}
 use Rattle.model.specs.Plan.{Plan, planned, refused, steps_of, succeeds, found_at, plan}
+use Rattle.schedule_laws.specs.Alike.{Alike}
 use Rattle.schedule_laws.specs.Ready.{heights, searched}
 use Rattle.registers.specs.Fits.{Fitted}
 use Rattle.lives.specs.Schedules.{scheduled}
@@ -47,5 +48,5 @@ plan_of meaning ops es us units lowest before = plan ops es (hardware us units) 
 
 abbrev pub ChoiceOf : {S : Type 0} → (S → Meaning) → (S → ℕ → ℕ → ℕ) → Loop → List Edge → List Timing → List ℕ → ℕ → S → S → Option Choice → Type 0
 ChoiceOf meaning place ops es us units lowest before after (Some c) =
-    (plan_of meaning ops es us units lowest before ≡ planned (chosen c) c.steps) × Accepts meaning place ops us units before after c
+    (w : Schedule) × (Alike (length ops) (chosen c) w × (plan_of meaning ops es us units lowest before ≡ planned w c.steps) × Accepts meaning place ops us units before after c)
 ChoiceOf meaning place ops es us units lowest before after None = (plan_of meaning ops es us units lowest before ≡ refused) × (after ≡ before)

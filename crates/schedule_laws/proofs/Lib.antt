@@ -1,4 +1,5 @@
 pub mod Machines
+pub mod Alike
 pub mod Intervals
 pub mod Tables
 pub mod Times
