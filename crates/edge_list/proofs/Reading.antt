@@ -1,5 +1,5 @@
 -- An operation of the loop by its number, and its latency.
-use Rattle.std.proofs.Common.{◌≡◌, ℕ, ◌+◌, ◌<◌, ◌≤◌, List, map, length, get_or, take, Option, sym, refl, ap, ◌∙◌, arith}
+use Rattle.std.proofs.Common.{◌≡◌, ℕ, ◌<◌, ◌≤◌, map, length, get_or, take, Option, sym, ap, ◌∙◌, arith}
 use Rattle.std.proofs.lemmas.List.{length-map, length-take-le, get_or-map, get_or-take, get_or_past}
 use Rattle.model.specs.Loop.{op, Operand, Operation as ModelOperation}
 use Rattle.model.specs.declared.Edge.{Edge}

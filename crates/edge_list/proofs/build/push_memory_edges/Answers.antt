@@ -1,4 +1,4 @@
-use Rattle.std.proofs.Common.{◌≡◌, length, sym, ap, ◌∙◌, subst, arith}
+use Rattle.std.proofs.Common.{◌≡◌, length, subst, arith}
 use Rattle.model.specs.Edges.{each}
 use Rattle.dependence.specs.Loops.{loop_seen}
 use Rattle.edge_list.specs.Appended.{Appended}

@@ -1,4 +1,4 @@
-use Rattle.std.proofs.Common.{◌≡◌, length, sym, ap, ◌∙◌, subst, arith}
+use Rattle.std.proofs.Common.{◌≡◌, length, sym, subst, arith}
 use Rattle.model.specs.Loop.{operands}
 use Rattle.model.specs.Edges.{each, operand_edges}
 use Rattle.dependence.specs.Loops.{loop_seen}

@@ -1,4 +1,4 @@
-use Rattle.std.proofs.Common.{◌≡◌, sym, ap, ◌∙◌}
+use Rattle.std.proofs.Common.{sym, ap, ◌∙◌}
 use Rattle.model.specs.Soundness.{timing_of}
 use Rattle.texts.specs.Records.{machine_seen}
 use Rattle.edge_list.proofs.Reading.{latency_at, no_latency}

@@ -1,7 +1,4 @@
-use Rattle.std.proofs.Common.{◌≡◌, sym, ap, ◌∙◌, subst}
-use Rattle.model.specs.Edges.{between}
-use Rattle.edge_laws.specs.Meeting.{by_distance}
-use Rattle.dependence.specs.Loops.{loop_seen}
+use Rattle.std.proofs.Common.{sym, subst}
 use Rattle.edge_list.specs.Appended.{Appended, RoomFor}
 use Rattle.edge_list.proofs.Reading.{between_read}
 use Rattle.edge_list.proofs.push.push_between.Goals as goal
