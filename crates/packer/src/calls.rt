@@ -18,7 +18,7 @@ use values::domain::Domain;
 impl<S: Scheme, D: Domain> Packer<S, D> {
     // Reads a machine text. A loop, a plan and a listing that stood do not stand any more.
     pub fn machine(&mut self, text: &[u8]) -> Result<(), PackFault>
-        ensures keeps { Kept meaning place D.Domain.operations self.old.scheme self.old.desk (machine text.now) (text_answer result) (machine text.now) self.new.scheme self.new.desk }
+        ensures keeps { Kept S.meaning S.place D.operations self.old.scheme self.old.desk (machine text.now) (text_answer result) (machine text.now) self.new.scheme self.new.desk }
         ensures domain { self.new.domain ≡ self.old.domain }
     {
         self.desk.read_machine(text)
@@ -26,7 +26,7 @@ impl<S: Scheme, D: Domain> Packer<S, D> {
 
     // Reads a loop text for the machine that stands. A plan and a listing that stood do not stand any more.
     pub fn read_loop(&mut self, text: &[u8]) -> Result<(), PackFault>
-        ensures keeps { Kept meaning place D.Domain.operations self.old.scheme self.old.desk (loop text.now) (text_answer result) (loop text.now) self.new.scheme self.new.desk }
+        ensures keeps { Kept S.meaning S.place D.operations self.old.scheme self.old.desk (loop text.now) (text_answer result) (loop text.now) self.new.scheme self.new.desk }
         ensures domain { self.new.domain ≡ self.old.domain }
     {
         self.desk.read_loop(text)
@@ -34,7 +34,7 @@ impl<S: Scheme, D: Domain> Packer<S, D> {
 
     // Plans the loop that stands. A listing that stood does not stand any more.
     pub fn plan(&mut self) -> Result<Scheduled, PackFault>
-        ensures keeps { Kept meaning place D.Domain.operations self.old.scheme self.old.desk plan (plan_answer result) plan self.new.scheme self.new.desk }
+        ensures keeps { Kept S.meaning S.place D.operations self.old.scheme self.old.desk plan (plan_answer result) plan self.new.scheme self.new.desk }
         ensures domain { self.new.domain ≡ self.old.domain }
     {
         self.desk.schedule(&mut self.scheme)
@@ -42,7 +42,7 @@ impl<S: Scheme, D: Domain> Packer<S, D> {
 
     // Writes the listing of the plan that stands for so many trips.
     pub fn expand(&mut self, trips: usize) -> Result<Parts, PackFault>
-        ensures keeps { Kept meaning place D.Domain.operations self.old.scheme self.old.desk (expand trips) (expand_answer result) (expand trips) self.new.scheme self.new.desk }
+        ensures keeps { Kept S.meaning S.place D.operations self.old.scheme self.old.desk (expand trips) (expand_answer result) (expand trips) self.new.scheme self.new.desk }
         ensures domain { self.new.domain ≡ self.old.domain }
     {
         self.desk.write(&self.scheme, trips)
@@ -55,7 +55,7 @@ impl<S: Scheme, D: Domain> Packer<S, D> {
         values: &mut [D::Value],
         waiting: &mut [Waiting<D::Value>],
     ) -> Result<usize, PackFault>
-        ensures { Kept meaning place D.Domain.operations self.now.scheme self.now.desk
+        ensures { Kept S.meaning S.place D.operations self.now.scheme self.now.desk
             (run (buffers memory.old values.old waiting.old)) (run_answer result) (run (buffers memory.new values.new waiting.new))
             self.now.scheme self.now.desk }
     {

@@ -19,7 +19,7 @@ pub struct Packer<S: Scheme, D: Domain> {
 impl<S: Scheme + Drop, D: Domain + Drop> Packer<S, D> {
     // A packer in which nothing stands. Only this can fail for want of memory.
     pub fn new(heap: Global, scheme: S, domain: D) -> Result<Packer<S, D>, AllocError>
-        ensures whole { IfOk result (λ p. Whole meaning place D.Domain.operations p.scheme p.desk) }
+        ensures whole { IfOk result (λ p. Whole S.meaning S.place D.operations p.scheme p.desk) }
         ensures nothing { IfOk result (λ p. standing_seen p.desk.standing ≡ nothing) }
         ensures scheme { IfOk result (λ p. p.scheme ≡ scheme) }
         ensures domain { IfOk result (λ p. p.domain ≡ domain) }

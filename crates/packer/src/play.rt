@@ -52,7 +52,7 @@ fn run_outcome(answer: Result<usize, PackFault>) -> Outcome
 impl<S: Scheme, D: Domain> Packer<S, D> {
     // Makes a call, and hands it back with what came of it.
     pub fn make(&mut self, call: Call<D::Value>) -> Entry<D::Value>
-        ensures { MadeOne meaning place D.Domain.operations self.old.scheme self.old.desk call result self.new.scheme self.new.desk }
+        ensures { MadeOne S.meaning S.place D.operations self.old.scheme self.old.desk call result self.new.scheme self.new.desk }
     {
         match call {
             Call::Machine(text) => {
@@ -90,9 +90,9 @@ impl<S: Scheme, D: Domain> Packer<S, D> {
 
     // A call that was made before stays as it is.
     fn exchange(&mut self, entry: Entry<D::Value>) -> Entry<D::Value>
-        ensures { Whole meaning place D.Domain.operations self.old.scheme self.old.desk →
-            PlayedOne meaning place D.Domain.operations (state self.old.scheme self.old.desk) entry result (state self.new.scheme self.new.desk) ×
-            Whole meaning place D.Domain.operations self.new.scheme self.new.desk }
+        ensures { Whole S.meaning S.place D.operations self.old.scheme self.old.desk →
+            PlayedOne S.meaning S.place D.operations (state self.old.scheme self.old.desk) entry result (state self.new.scheme self.new.desk) ×
+            Whole S.meaning S.place D.operations self.new.scheme self.new.desk }
     {
         match entry {
             Entry::Asked(call) => self.make(call),
@@ -102,8 +102,8 @@ impl<S: Scheme, D: Domain> Packer<S, D> {
 
     // Makes each call of a list in its place, in order, and leaves in its place what came of it.
     pub fn play(&mut self, entries: &mut [Entry<D::Value>])
-        ensures { Whole meaning place D.Domain.operations self.old.scheme self.old.desk →
-            Plays meaning place D.Domain.operations self.old.scheme self.old.desk entries.old entries.new self.new.scheme self.new.desk }
+        ensures { Whole S.meaning S.place D.operations self.old.scheme self.old.desk →
+            Plays S.meaning S.place D.operations self.old.scheme self.old.desk entries.old entries.new self.new.scheme self.new.desk }
     {
         for entry in entries.iter_mut() {
             let asked = mem::replace(entry, Entry::Asked(Call::Plan));

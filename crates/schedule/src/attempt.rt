@@ -42,7 +42,7 @@ pub(crate) fn offer<S: Scheme>(
     interval: usize,
 ) -> Option<usize>
     requires { Limits (lives_table (loop_seen l.now) (hardware timings.now []) (scheduled interval times.now)) }
-    ensures { (units : List ℕ) → Fitted meaning place scheme.old scheme.new (lives_table (loop_seen l.now) (hardware timings.now units) (scheduled interval times.now)) result }
+    ensures { (units : List ℕ) → Fitted S.meaning S.place scheme.old scheme.new (lives_table (loop_seen l.now) (hardware timings.now units) (scheduled interval times.now)) result }
 {
     let lives = lives_of(l, timings, times, interval)?;
     scheme.fit(&lives)
@@ -59,7 +59,7 @@ pub(crate) fn attempt<S: Scheme>(
 ) -> Attempt
     requires ready { Ready (loop_seen l.now) edges.now timings.now units.now interval }
     requires below { interval < latencies timings.now (length timings.now) }
-    ensures { AttemptOf meaning place (loop_seen l.now) edges.now timings.now units.now interval scheme.old scheme.new result }
+    ensures { AttemptOf S.meaning S.place (loop_seen l.now) edges.now timings.now units.now interval scheme.old scheme.new result }
 {
     let Ok(outcome) = search(edges, timings, units, interval) else {
         return Attempt::Failed(0);

@@ -20,7 +20,7 @@ pub(crate) fn choose<S: Scheme>(
     lowest: usize,
 ) -> Option<Choice>
     requires { Ready (loop_seen l.now) edges.now timings.now units.now lowest }
-    ensures { ChoiceOf meaning place (loop_seen l.now) edges.now timings.now units.now lowest scheme.old scheme.new result }
+    ensures { ChoiceOf S.meaning S.place (loop_seen l.now) edges.now timings.now units.now lowest scheme.old scheme.new result }
 {
     let sequence = in_sequence(timings)?;
     let mut steps = 0;

@@ -19,7 +19,7 @@ pub fn schedule_loop<S: Scheme>(
     edges: &[Edge],
     scheme: &mut S,
 ) -> Result<Scheduled, NoSchedule>
-    ensures { ScheduleOf meaning place (machine_seen machine.now) (loop_seen l.now) edges.now scheme.old scheme.new result }
+    ensures { ScheduleOf S.meaning S.place (machine_seen machine.now) (loop_seen l.now) edges.now scheme.old scheme.new result }
 {
     let timings = timings_of(machine, l);
     let timings = &timings[0..l.count];

@@ -12,7 +12,7 @@ use schedule::{Scheduled, schedule_loop};
 impl Desk {
     // Schedules the loop that stands, for a register scheme, which then has accepted the lives.
     pub fn schedule<S: Scheme>(&mut self, scheme: &mut S) -> Result<Scheduled, PackFault>
-        ensures { Schedules meaning place self.old self.new scheme.old scheme.new result }
+        ensures { Schedules S.meaning S.place self.old self.new scheme.old scheme.new result }
     {
         let Some(body) = self.standing.body() else {
             return Err(PackFault::NotStanding);
@@ -29,7 +29,7 @@ impl Desk {
 
     // Writes the listing of the plan that stands for so many trips, in the names of the register scheme.
     pub fn write<S: Scheme>(&mut self, scheme: &S, trips: usize) -> Result<Parts, PackFault>
-        ensures { Writes self.old self.new (meaning scheme.now).name trips result }
+        ensures { Writes self.old self.new (S.meaning scheme.now).name trips result }
     {
         let Some(plan) = self.standing.plan() else {
             return Err(PackFault::NotStanding);
