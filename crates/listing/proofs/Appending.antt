@@ -1,9 +1,8 @@
 -- Rows put behind rows.
-use Rattle.std.proofs.Common.{◌≡◌, ℕ, zero, suc, ◌+◌, ◌<◌, ◌≤◌, true, false, cond, List, [], ◌∷◌, ◌++◌, map, length, vec_items, vec_len, vec_capacity, Vec, sym, refl, ap, ◌∙◌, subst, ap₂, add_assoc, add-one, arith}
+use Rattle.std.proofs.Common.{◌≡◌, ℕ, ◌+◌, ◌<◌, ◌≤◌, true, false, cond, List, [], ◌∷◌, ◌++◌, map, length, vec_items, vec_len, vec_capacity, Vec, sym, refl, ap, ◌∙◌, subst, ap₂, add_assoc, add-one, arith}
 use Rattle.std.specs.declared.alloc.Global.{Global}
 use Rattle.std.proofs.lemmas.List.{append-nil, append_assoc, length-append, length_push, length-map, map_push}
 use Rattle.std.proofs.lemmas.Bool.{and_parts, leb-true}
-use Rattle.model.specs.Loop.{Loop}
 use Rattle.model.specs.Edges.{each}
 use Rattle.model.specs.Schedule.{stage}
 use Rattle.model.specs.Issues.{issues_in}
@@ -14,7 +13,7 @@ use Rattle.listing.specs.declared.slot.Slot.{Slot}
 use Rattle.listing.specs.declared.rows.Rows.{Rows}
 use Rattle.listing.specs.declared.body.Body.{Body}
 use Rattle.listing.specs.Views.{slot_seen, loop_of, schedule_of}
-use Rattle.listing.specs.Kept.{all_slots, cuts, Keeps, Room, Appended}
+use Rattle.listing.specs.Kept.{all_slots, cuts, Room, Appended}
 use Rattle.listing_laws.proofs.Each.{each_up_to, joined_append, joined_each}
 use Rattle.listing.proofs.Bodies.{count_is}
 

@@ -1,8 +1,8 @@
 -- The loop of a body, operation by operation.
-use Rattle.std.proofs.Common.{◌≡◌, ℕ, zero, suc, ◌+◌, ◌-◌, ◌%◌, ◌<◌, ◌≤◌, max, Bool, true, false, cond, ◌&&◌, eqb, ltb, leb, List, [], ◌∷◌, map, length, get_or, take, set, Some, None, Option, sym, refl, ap, ◌∙◌, ap₂, inl, inr, add-one, arith}
+use Rattle.std.proofs.Common.{◌≡◌, ℕ, ◌+◌, ◌-◌, ◌%◌, ◌<◌, ◌≤◌, max, true, false, cond, ltb, List, [], ◌∷◌, length, get_or, take, set, Some, None, Option, sym, refl, ap, ◌∙◌, ap₂, inl, inr, add-one, arith}
 use Rattle.std.proofs.lemmas.List.{get_or-map, get_or-take, get_or-set_same, get_or-set_other, length-take-le, length-map}
 use Rattle.std.proofs.lemmas.Bool.{cases_eq, cases_Bool, eq-eqb, ne_eqb, cases_lt, le-leb, lt-leb}
-use Rattle.model.specs.Loop.{Loop, Operand, Operation, move, op, makes, total, on_operands, EachOperand, Named, WellFormed}
+use Rattle.model.specs.Loop.{Loop, Operation, op, makes, on_operands, EachOperand, Named, WellFormed}
 use Rattle.model.specs.MachineText.{Machine}
 use Rattle.model.specs.Soundness.{hardware}
 use Rattle.model.specs.Schedule.{Schedule, stage, stages}

@@ -1,17 +1,17 @@
 -- What is known when a listing is written.
-use Rattle.std.proofs.Common.{◌≡◌, ℕ, zero, suc, ◌+◌, ◌-◌, ◌*◌, ◌/◌, ◌%◌, ◌<◌, ◌≤◌, true, false, cond, eqb, leb, List, [], ◌∷◌, ◌++◌, map, length, Some, None, vec_items, vec_len, sym, refl, ap, ◌∙◌, subst, ap₂, inl, inr, mul-le-mul, arith}
+use Rattle.std.proofs.Common.{◌≡◌, ℕ, ◌+◌, ◌-◌, ◌*◌, ◌/◌, ◌%◌, ◌<◌, ◌≤◌, cond, eqb, leb, List, map, length, Some, None, vec_len, sym, ap, ◌∙◌, subst, ap₂, inl, inr, mul-le-mul, arith}
 use Rattle.std.proofs.lemmas.Bool.{cases_eq, eq-eqb, ne_eqb, le-leb, lt-leb}
 use Rattle.model.specs.declared.Parts.{Parts}
 use Rattle.model.specs.declared.Timing.{Timing}
 use Rattle.model.specs.Loop.{Loop, Hardware, WellFormed}
-use Rattle.model.specs.Schedule.{Schedule, stages, FewStages}
+use Rattle.model.specs.Schedule.{Schedule, stages}
 use Rattle.model.specs.Schemes.{Meaning, Lawful}
 use Rattle.model.specs.Issues.{passes, variable_number}
 use Rattle.model.specs.Pipelining.{Means}
 use Rattle.model.specs.Codes.{form_of, slot_in}
 use Rattle.model.specs.Listing as listings
 use Rattle.model.specs.Listing.{farthest, head_of, all_front, with_kernel, parts_of, passes_run, passes_written, rows_of, listing, slots_of}
-use Rattle.model.specs.ListingLaws.{ByCode, Sizes}
+use Rattle.model.specs.ListingLaws.{ByCode}
 use Rattle.dependence.specs.declared.loops.Loop.{Loop as OwnLoop}
 use Rattle.dependence.specs.Loops.{loop_seen}
 use Rattle.pipelining.proofs.Length.{stage_below, stages_by_times}
@@ -22,7 +22,7 @@ use Rattle.listing.specs.declared.body.Body.{Body}
 use Rattle.listing.specs.declared.listing.Listing.{Listing}
 use Rattle.listing.specs.declared.rows.Rows.{Rows}
 use Rattle.listing.specs.Schedules.{schedule}
-use Rattle.listing.specs.Views.{slot_seen, loop_of, schedule_of}
+use Rattle.listing.specs.Views.{loop_of, schedule_of}
 use Rattle.listing.specs.Kept.{all_slots, Keeps}
 use Rattle.listing.specs.Forms.{rows_said}
 use Rattle.listing.specs.Written.{Is, complaint}

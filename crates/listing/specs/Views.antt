@@ -1,5 +1,5 @@
 -- The slots and the loop of the code as the definitions have them.
-use Rattle.std.specs.Prelude.{◌≡◌, ℕ, ◌<◌, length, Some, None, Option}
+use Rattle.std.specs.Prelude.{ℕ, ◌<◌, Some, None, Option}
 use Rattle.model.specs.Loop as loops
 use Rattle.model.specs.Schedule.{Schedule}
 use Rattle.model.specs.Codes.{CodeSource}

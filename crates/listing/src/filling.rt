@@ -55,8 +55,8 @@ impl Listing {
         turns: usize,
         trips: usize,
     ) -> Result<(), Unwritable>
-        ensures written { Answered self.old self.new (loop_seen source.now) (schedule interval times.now) (meaning scheme.now).name turns trips result }
-        ensures means { Meant self.new (loop_seen source.now) (schedule interval times.now) (meaning scheme.now) turns trips result }
+        ensures written { Answered self.old self.new (loop_seen source.now) (schedule interval times.now) (S.meaning scheme.now).name turns trips result }
+        ensures means { Meant self.new (loop_seen source.now) (schedule interval times.now) (S.meaning scheme.now) turns trips result }
     {
         if interval < 1 || interval > 256 {
             return Err(Unwritable::Interval);

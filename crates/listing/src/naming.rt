@@ -100,7 +100,7 @@ impl Body {
     fn source<S: Scheme>(&self, scheme: &S, pass: usize, stage: usize, operand: Operand) -> Source
         requires begun { stage ≤ pass }
         requires known { KnownOperand self.now.source.count operand }
-        ensures { source_seen result ≡ operand_in (loop_of self.now) (schedule_of self.now) (meaning scheme.now).name self.now.turns pass stage (operand_seen operand) }
+        ensures { source_seen result ≡ operand_in (loop_of self.now) (schedule_of self.now) (S.meaning scheme.now).name self.now.turns pass stage (operand_seen operand) }
     {
         match operand {
             Operand::Literal(z) => Source::Literal(z),
@@ -126,7 +126,7 @@ impl Body {
     ) -> Issued
         requires begun { stage ≤ pass }
         requires known { KnownOperands self.now.source.count operation }
-        ensures { code_operation_seen result ≡ on_operands (operand_in (loop_of self.now) (schedule_of self.now) (meaning scheme.now).name self.now.turns pass stage) (operation_seen operation) }
+        ensures { code_operation_seen result ≡ on_operands (operand_in (loop_of self.now) (schedule_of self.now) (S.meaning scheme.now).name self.now.turns pass stage) (operation_seen operation) }
     {
         match operation {
             Operation::Load(cell) => Issued::Load(cell),
@@ -143,7 +143,7 @@ impl Body {
     // The name of the result of an operation; a store has none.
     fn result<S: Scheme>(&self, scheme: &S, pass: usize, operation: usize) -> Option<usize>
         requires { operation < self.now.source.count }
-        ensures { result ≡ result_in (loop_of self.now) (schedule_of self.now) (meaning scheme.now).name self.now.turns pass operation }
+        ensures { result ≡ result_in (loop_of self.now) (schedule_of self.now) (S.meaning scheme.now).name self.now.turns pass operation }
     {
         if values_made(self.source.operations[operation]) == 0 {
             return None;
@@ -159,7 +159,7 @@ impl Body {
     pub(crate) fn slot<S: Scheme>(&self, scheme: &S, place: Place, operation: usize) -> Slot
         requires known { operation < self.now.source.count }
         requires begun { slice_index self.now.stages operation ≤ place.pass }
-        ensures { slot_seen result ≡ slot_in_pass (loop_of self.now) (schedule_of self.now) (meaning scheme.now).name self.now.turns place.part place.written place.pass operation }
+        ensures { slot_seen result ≡ slot_in_pass (loop_of self.now) (schedule_of self.now) (S.meaning scheme.now).name self.now.turns place.part place.written place.pass operation }
     {
         let stage = self.stages[operation];
         let issued = self.in_names(scheme, place.pass, stage, self.source.operations[operation]);

@@ -14,9 +14,9 @@ use registers::scheme::Scheme;
 
 // Puts the slots of a row of a pass behind the others.
 fn push_slots<S: Scheme>(slots: &mut Vec<Slot>, body: &Body, scheme: &S, place: Place, row: usize)
-    requires { vec_len slots.old + length (row_of (loop_of body.now) (schedule_of body.now) (meaning scheme.now).name body.now.turns body.now.trips place.part place.written place.pass row) ≤ vec_capacity slots.old }
-    ensures items { map slot_seen slots.new.items ≡ map slot_seen slots.old.items ++ row_of (loop_of body.now) (schedule_of body.now) (meaning scheme.now).name body.now.turns body.now.trips place.part place.written place.pass row }
-    ensures len { vec_len slots.new ≡ vec_len slots.old + length (row_of (loop_of body.now) (schedule_of body.now) (meaning scheme.now).name body.now.turns body.now.trips place.part place.written place.pass row) }
+    requires { vec_len slots.old + length (row_of (loop_of body.now) (schedule_of body.now) (S.meaning scheme.now).name body.now.turns body.now.trips place.part place.written place.pass row) ≤ vec_capacity slots.old }
+    ensures items { map slot_seen slots.new.items ≡ map slot_seen slots.old.items ++ row_of (loop_of body.now) (schedule_of body.now) (S.meaning scheme.now).name body.now.turns body.now.trips place.part place.written place.pass row }
+    ensures len { vec_len slots.new ≡ vec_len slots.old + length (row_of (loop_of body.now) (schedule_of body.now) (S.meaning scheme.now).name body.now.turns body.now.trips place.part place.written place.pass row) }
     ensures capacity { vec_capacity slots.new ≡ vec_capacity slots.old }
 {
     for operation in 0..body.source.count {
@@ -28,16 +28,16 @@ fn push_slots<S: Scheme>(slots: &mut Vec<Slot>, body: &Body, scheme: &S, place: 
 
 impl Rows {
     fn push_row<S: Scheme>(&mut self, body: &Body, scheme: &S, place: Place, row: usize)
-        requires { Room self.old (row_of (loop_of body.now) (schedule_of body.now) (meaning scheme.now).name body.now.turns body.now.trips place.part place.written place.pass row ∷ []) }
-        ensures { Appended self.old self.new (row_of (loop_of body.now) (schedule_of body.now) (meaning scheme.now).name body.now.turns body.now.trips place.part place.written place.pass row ∷ []) }
+        requires { Room self.old (row_of (loop_of body.now) (schedule_of body.now) (S.meaning scheme.now).name body.now.turns body.now.trips place.part place.written place.pass row ∷ []) }
+        ensures { Appended self.old self.new (row_of (loop_of body.now) (schedule_of body.now) (S.meaning scheme.now).name body.now.turns body.now.trips place.part place.written place.pass row ∷ []) }
     {
         push_slots(&mut self.slots, body, scheme, place, row);
         self.starts.push_reserved(self.slots.len());
     }
 
     fn push_pass<S: Scheme>(&mut self, body: &Body, scheme: &S, place: Place)
-        requires { Room self.old (rows_of_pass (loop_of body.now) (schedule_of body.now) (meaning scheme.now).name body.now.turns body.now.trips place.part place.written place.pass) }
-        ensures { Appended self.old self.new (rows_of_pass (loop_of body.now) (schedule_of body.now) (meaning scheme.now).name body.now.turns body.now.trips place.part place.written place.pass) }
+        requires { Room self.old (rows_of_pass (loop_of body.now) (schedule_of body.now) (S.meaning scheme.now).name body.now.turns body.now.trips place.part place.written place.pass) }
+        ensures { Appended self.old self.new (rows_of_pass (loop_of body.now) (schedule_of body.now) (S.meaning scheme.now).name body.now.turns body.now.trips place.part place.written place.pass) }
     {
         for row in 0..body.interval {
             self.push_row(body, scheme, place, row);
@@ -54,8 +54,8 @@ impl Rows {
         passes: usize,
     )
         requires few { first + passes ≤ 65535 }
-        requires room { Room self.old (each (λ q. rows_of_pass (loop_of body.now) (schedule_of body.now) (meaning scheme.now).name body.now.turns body.now.trips part q (first + q)) passes) }
-        ensures { Appended self.old self.new (each (λ q. rows_of_pass (loop_of body.now) (schedule_of body.now) (meaning scheme.now).name body.now.turns body.now.trips part q (first + q)) passes) }
+        requires room { Room self.old (each (λ q. rows_of_pass (loop_of body.now) (schedule_of body.now) (S.meaning scheme.now).name body.now.turns body.now.trips part q (first + q)) passes) }
+        ensures { Appended self.old self.new (each (λ q. rows_of_pass (loop_of body.now) (schedule_of body.now) (S.meaning scheme.now).name body.now.turns body.now.trips part q (first + q)) passes) }
     {
         for written in 0..passes {
             let place = Place {
@@ -82,10 +82,10 @@ impl Rows {
     pub(crate) fn write<S: Scheme>(&mut self, body: &Body, scheme: &S, parts: Parts)
         requires parts { parts ≡ parts_of (loop_of body.now) (schedule_of body.now) body.now.turns body.now.trips }
         requires few { passes_run parts + parts.kernel ≤ 65535 }
-        requires slots { length (all_slots (rows_of (loop_of body.now) (schedule_of body.now) (meaning scheme.now).name body.now.turns body.now.trips)) ≤ 1152 }
-        requires rows { length (rows_of (loop_of body.now) (schedule_of body.now) (meaning scheme.now).name body.now.turns body.now.trips) ≤ 9216 }
-        ensures keeps { Keeps self.new (rows_of (loop_of body.now) (schedule_of body.now) (meaning scheme.now).name body.now.turns body.now.trips) }
-        ensures starts { vec_len self.new.starts ≡ length (rows_of (loop_of body.now) (schedule_of body.now) (meaning scheme.now).name body.now.turns body.now.trips) + 1 }
+        requires slots { length (all_slots (rows_of (loop_of body.now) (schedule_of body.now) (S.meaning scheme.now).name body.now.turns body.now.trips)) ≤ 1152 }
+        requires rows { length (rows_of (loop_of body.now) (schedule_of body.now) (S.meaning scheme.now).name body.now.turns body.now.trips) ≤ 9216 }
+        ensures keeps { Keeps self.new (rows_of (loop_of body.now) (schedule_of body.now) (S.meaning scheme.now).name body.now.turns body.now.trips) }
+        ensures starts { vec_len self.new.starts ≡ length (rows_of (loop_of body.now) (schedule_of body.now) (S.meaning scheme.now).name body.now.turns body.now.trips) + 1 }
     {
         self.clear();
         self.push_part(body, scheme, Part::Front, 0, parts.front);

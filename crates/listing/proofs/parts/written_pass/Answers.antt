@@ -1,4 +1,4 @@
-use Rattle.std.proofs.Common.{◌≡◌, ◌+◌, ◌-◌, ◌*◌, ◌%◌, ◌<◌, ap, inl, inr, mod-lt, mul-zero, arith}
+use Rattle.std.proofs.Common.{◌-◌, ◌*◌, ◌<◌, ap, inl, inr, mod-lt, mul-zero, arith}
 use Rattle.std.proofs.lemmas.Bool.{lt-ltb, le-ltb, cases_eq}
 use Rattle.model.specs.Listing.{written_pass}
 use Rattle.listing.proofs.parts.written_pass.Goals as goal

@@ -1,4 +1,3 @@
-use Rattle.std.proofs.Common.{ℕ}
 use Rattle.model.specs.Edges.{each}
 use Rattle.listing.proofs.Appending.{Grown, issuing}
 use Rattle.listing.proofs.writing.push_slots.Given as goal

@@ -1,4 +1,4 @@
-use Rattle.std.proofs.Common.{◌≡◌, ℕ, get_or, ap, ◌∙◌, arith}
+use Rattle.std.proofs.Common.{◌≡◌, get_or, ap, ◌∙◌, arith}
 use Rattle.model.specs.Schedule.{stages}
 use Rattle.listing.specs.Views.{schedule_of}
 use Rattle.listing.proofs.Bodies.{depth_more}

@@ -1,6 +1,5 @@
-use Rattle.std.proofs.Common.{◌+◌, ◌*◌, ◌≤◌, length, refl, ap, ◌∙◌, arith}
+use Rattle.std.proofs.Common.{◌≤◌, length, refl, arith}
 use Rattle.model.specs.Schedule.{stages}
-use Rattle.model.specs.Listing.{passes_written}
 use Rattle.dependence.specs.Loops.{loop_seen}
 use Rattle.listing.specs.Schedules.{schedule}
 use Rattle.listing.proofs.Filled.{deep, near, ready, is_listing, means_issues, stages_same, no_complaint, too_deep, listing_from}
@@ -47,10 +46,8 @@ invariant_of-self g c =
     (omega (arith, c.new-body.ensures.interval)) (omega (arith, c.new-body.ensures.interval)) c.new-body.ensures.turns c.if-turns-gt8.false c.new-body.ensures.trips c.if-trips-gt4096.false
     c.depth-stages.ensures c.if-stages-gt8.false c.farthest.ensures c.split-parts.ensures in
     let owes = listing_from c.new-body.result (g.S.Scheme.meaning c.args.scheme.now).name c.split-parts.result c.write.new.self c.args.interval c.args.trips
-    c.new-body.ensures.interval c.if-interval-gt256.false r c.write.ensures.starts in (
-      owes.0,
-      (owes.1.0, (owes.1.1.0, (owes.1.1.1, tt))),
-    )
+    c.new-body.ensures.interval c.if-interval-gt256.false r c.write.ensures.starts in
+    record { counted = owes.0; short = owes.1.0; runs = owes.1.1.0; narrow = owes.1.1.1 }
 
 pub returns : goal.returns
 returns g c =

@@ -1,4 +1,4 @@
-use Rattle.std.proofs.Common.{◌≡◌, vec_items, vec_len, arith}
+use Rattle.std.proofs.Common.{vec_items, vec_len, arith}
 use Rattle.std.proofs.lemmas.List.{get_or_read_under}
 use Rattle.listing.proofs.Cuts.{too_late, too_low, start_there, row_said}
 use Rattle.listing.proofs.reading.ListingCodeForm.row.Goals as goal

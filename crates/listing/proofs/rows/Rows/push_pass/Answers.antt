@@ -1,9 +1,9 @@
-use Rattle.std.proofs.Common.{◌≡◌, ℕ, List, [], ◌∷◌, arith}
+use Rattle.std.proofs.Common.{◌≡◌, ℕ, List, [], ◌∷◌, subst, arith}
 use Rattle.model.specs.Edges.{each}
 use Rattle.model.specs.Listing as listings
 use Rattle.model.specs.Listing.{row_of, rows_of_pass}
 use Rattle.listing.specs.Views.{loop_of, schedule_of}
-use Rattle.listing.specs.Kept.{Room, Appended}
+use Rattle.listing.specs.Kept.{Appended}
 use Rattle.listing.proofs.Appending.{append_none, append_next, room_next}
 use Rattle.listing.proofs.rows.Rows.push_pass.Goals as goal
 
@@ -30,5 +30,9 @@ loop-row-preserved g c =
 pub returns : goal.returns
 unfolding rows_of_pass
 returns g c =
-    let end : c.loop-row.row ≡ c.args.body.now.interval = omega (arith, c.loop-row.auto.row-end, c.loop-row-test.false) in
-    rw (← end) c.loop-row.invariant
+    let b = c.args.body.now in
+    let pl = c.args.place in
+    let f : ℕ → List (List listings.Slot) =
+    λ r. row_of (loop_of b) (schedule_of b) (g.S.Scheme.meaning c.args.scheme.now).name b.turns b.trips pl.part pl.written pl.pass r ∷ [] in
+    let end : c.loop-row.row ≡ b.interval = omega (arith, c.loop-row.auto.row-end, c.loop-row-test.false) in
+    subst (λ n. Appended c.args.self.now c.loop-row.self (each f n)) end c.loop-row.invariant
