@@ -1,11 +1,11 @@
 -- The list piece by piece: what two lines add to it, and where a row begins.
-use Rattle.std.proofs.Common.{◌≡◌, ℕ, zero, suc, ◌+◌, ◌<◌, ◌≤◌, Bool, true, false, cond, not, ◌&&◌, ◌||◌, eqb, ltb, leb, ◌⊎◌, List, [], ◌∷◌, ◌++◌, length, Some, None, Option, sym, refl, ap, ◌∙◌, subst, inl, inr, arith}
+use Rattle.std.proofs.Common.{◌≡◌, ℕ, zero, suc, ◌+◌, ◌<◌, ◌≤◌, Bool, true, false, cond, not, ◌&&◌, ◌||◌, List, [], ◌∷◌, ◌++◌, length, Some, None, Option, sym, refl, ap, ◌∙◌, inl, inr, arith}
 use Rattle.std.proofs.lemmas.List.{append-nil, length-append}
-use Rattle.std.proofs.lemmas.Bool.{cases_eq, cases_lt, cases_Bool, cases_order, lt-ltb, le-ltb, le-leb, lt-leb, false≢true}
-use Rattle.model.specs.Loop.{Loop, Operation, op, in_memory, makes, stride_of, offset_of}
+use Rattle.std.proofs.lemmas.Bool.{cases_eq, cases_Bool, cases_order, lt-ltb, le-ltb, le-leb, lt-leb, false≢true}
+use Rattle.model.specs.Loop.{Loop, op, in_memory, makes, stride_of, offset_of}
 use Rattle.model.specs.declared.Edge.{Edge}
-use Rattle.model.specs.Edges.{each, memory_delay, meets, joins, memory_link, memory_edge, between}
-use Rattle.edge_laws.specs.Meeting.{to_later, to_earlier, may_meet, distance_on, distance_back, edge_at, by_distance}
+use Rattle.model.specs.Edges.{each, memory_delay, meets, joins, between}
+use Rattle.edge_laws.specs.Meeting.{may_meet, distance_on, distance_back, edge_at, by_distance}
 use Rattle.edge_laws.proofs.Meeting.{Only, only_same, later_only, earlier_only}
 
 module _ {A : Type 0} (f : ℕ → List A) where

@@ -1,5 +1,5 @@
 -- The memory edges of two operations on different lines: there is at most one each way, and this is its distance.
-use Rattle.std.specs.Prelude.{ℕ, ◌-◌, ◌/◌, ◌%◌, Bool, true, false, cond, not, ◌&&◌, ◌||◌, List, [], ◌∷◌, Some, None, Option, ◌==◌, nat_le, nat_lt}
+use Rattle.std.specs.Prelude.{ℕ, ◌-◌, ◌/◌, ◌%◌, Bool, cond, not, ◌&&◌, ◌||◌, List, [], ◌∷◌, Some, None, Option, ◌==◌, nat_le, nat_lt}
 use Rattle.model.specs.Loop.{Operation, in_memory, makes, stride_of, offset_of}
 use Rattle.model.specs.declared.Edge.{Edge}
 

@@ -1,5 +1,5 @@
 -- A row's issue is that of its parts.
-use Rattle.std.proofs.Common.{◌≡◌, ℕ, zero, suc, ◌+◌, ◌-◌, ◌/◌, ◌<◌, ◌≤◌, List, [], ◌∷◌, map, Some, None, Option, sym, refl, ap, ◌∙◌, add-one, arith}
+use Rattle.std.proofs.Common.{◌≡◌, ℕ, zero, suc, ◌+◌, ◌-◌, ◌/◌, ◌<◌, ◌≤◌, List, [], ◌∷◌, map, Some, None, Option, refl, ap, ◌∙◌, add-one, arith}
 use Rattle.model.specs.Domains.{Domain}
 use Rattle.model.specs.Issues.{Slot, iteration_in}
 use Rattle.model.specs.Driving.{Machine, issue, reserved, issue_all}

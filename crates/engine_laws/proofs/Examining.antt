@@ -1,14 +1,13 @@
 -- The questions by the tables are the machine's.
-use Rattle.std.proofs.Common.{◌≡◌, ℕ, zero, suc, ◌+◌, ◌-◌, ◌*◌, ◌/◌, ◌%◌, ◌^◌, ◌<◌, ◌≤◌, Bool, true, false, cond, not, ◌&&◌, ◌||◌, eqb, ltb, leb, List, [], ◌∷◌, length, get_or, set, None, sym, refl, ap, ◌∙◌, ap₂, inl, inr, arith}
+use Rattle.std.proofs.Common.{◌≡◌, ℕ, zero, suc, ◌+◌, ◌-◌, ◌/◌, ◌^◌, ◌<◌, ◌≤◌, Bool, true, false, cond, ◌&&◌, eqb, ltb, leb, List, [], ◌∷◌, length, get_or, set, None, sym, refl, ap, ◌∙◌, ap₂, inl, inr, arith}
 use Rattle.std.proofs.lemmas.List.{get_or-set_same, get_or-set_other}
 use Rattle.std.proofs.lemmas.Bool.{cases_eq, eq-eqb, ne_eqb, le-ltb, ltb-true}
 use Rattle.model.specs.declared.Status.{Status}
 use Rattle.model.specs.declared.Status.TheVariants.{Never, Waits}
-use Rattle.model.specs.declared.Question.{Question}
 use Rattle.model.specs.declared.Question.TheVariants.{UnitFree, OperandsLanded, IterationRuns, CellInMemory, ResultFree}
-use Rattle.model.specs.Loop.{operands, makes, in_memory, stride_of, offset_of, cell}
+use Rattle.model.specs.Loop.{operands, makes}
 use Rattle.model.specs.Issues.{Source, constant, register, Slot, iteration_in}
-use Rattle.model.specs.Driving.{Machine, Examination, passed, failed, ask, all_below, all_of, awaits, put, unit_free, readable, operands_landed, cell_in_memory, result_free, iteration_runs, slot_iteration, reserved, examine}
+use Rattle.model.specs.Driving.{Machine, Examination, ask, all_below, all_of, put, unit_free, readable, operands_landed, cell_in_memory, result_free, iteration_runs, reserved, examine}
 use Rattle.engine_laws.proofs.Below.{all_below_each}
 use Rattle.engine_laws.specs.Parts.{status_after, taken_after}
 use Rattle.engine_laws.specs.Tracks.{unit_place, Tracks, use_for, unit_free_by, readable_by, landed_by, cell_by, free_by, verdict, verdict_by, judged}

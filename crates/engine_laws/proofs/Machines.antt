@@ -1,11 +1,10 @@
 -- Machines that are alike, and the tables of the next cycle.
-use Rattle.std.proofs.Common.{◌≡◌, ℕ, zero, suc, ◌+◌, ◌-◌, ◌*◌, ◌/◌, ◌%◌, ◌<◌, ◌≤◌, Bool, true, false, cond, not, ◌&&◌, ◌||◌, ltb, List, [], ◌∷◌, length, get_or, sym, refl, ap, ◌∙◌, ap₂, inl, inr, arith}
+use Rattle.std.proofs.Common.{◌≡◌, ℕ, suc, ◌+◌, ◌%◌, ◌<◌, Bool, ◌&&◌, List, [], ◌∷◌, length, get_or, sym, refl, ap, ◌∙◌, ap₂, inl, inr, arith}
 use Rattle.std.proofs.lemmas.Bool.{cases_eq}
 use Rattle.model.specs.declared.Status.{Status}
-use Rattle.model.specs.declared.Question.TheVariants.{UnitFree, OperandsLanded, IterationRuns, CellInMemory, ResultFree}
-use Rattle.model.specs.Loop.{operands, in_memory, stride_of, offset_of, cell}
+use Rattle.model.specs.Loop.{operands}
 use Rattle.model.specs.Issues.{Source, constant, register, Slot}
-use Rattle.model.specs.Driving.{Waiting, Machine, Examination, ask, all_of, unit_free, readable, operands_landed, cell_in_memory, result_free, iteration_runs, slot_iteration, reserved, examine}
+use Rattle.model.specs.Driving.{Waiting, Machine, all_of, readable, operands_landed, reserved, examine}
 use Rattle.engine_laws.specs.Tracks.{unit_place, Tracks}
 
 pub machine_same : {V : Type 0} (m n : Machine V) → m.memory ≡ n.memory → m.values ≡ n.values → m.waiting ≡ n.waiting → m.status ≡ n.status → m.taken ≡ n.taken → m ≡ n

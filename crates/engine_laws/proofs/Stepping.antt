@@ -1,13 +1,13 @@
 -- One place further in the examination of a row.
-use Rattle.std.proofs.Common.{◌≡◌, ℕ, zero, suc, ◌+◌, ◌-◌, ◌/◌, ◌<◌, ◌≤◌, List, [], ◌∷◌, length, Some, None, Option, sym, refl, ap, ◌∙◌, subst, add-one, arith}
+use Rattle.std.proofs.Common.{◌≡◌, ℕ, suc, ◌+◌, ◌/◌, ◌<◌, ◌≤◌, List, ◌∷◌, length, Some, None, Option, sym, refl, ap, ◌∙◌, add-one}
 use Rattle.model.specs.declared.Status.{Status}
 use Rattle.model.specs.declared.Question.{Question}
 use Rattle.model.specs.Issues.{Slot}
-use Rattle.model.specs.Driving.{Machine, Examination, passed, failed, reserved, examine}
-use Rattle.model.specs.Codes.{gathered, with_some}
+use Rattle.model.specs.Driving.{Machine, passed, failed, reserved, examine}
+use Rattle.model.specs.Codes.{with_some}
 use Rattle.engine_laws.specs.Parts.{statuses, takens, status_after, taken_after}
 use Rattle.engine_laws.specs.Tracks.{Tracks, verdict_by, judged}
-use Rattle.engine_laws.specs.Rows.{slots_from, Reached, Examined}
+use Rattle.engine_laws.specs.Rows.{slots_from, Reached}
 use Rattle.engine_laws.proofs.Apart.{gathered_first, gathered_end}
 use Rattle.engine_laws.proofs.Examining.{examined_one}
 

@@ -1,5 +1,5 @@
 -- How far a program has come with the slots of a row, which are read from the places first to end - 1.
-use Rattle.std.specs.Prelude.{◌≡◌, ℕ, suc, ◌+◌, ◌-◌, ◌/◌, ◌≤◌, List, length, Option}
+use Rattle.std.specs.Prelude.{◌≡◌, ℕ, ◌-◌, ◌/◌, List, length, Option}
 use Rattle.model.specs.declared.Status.{Status}
 use Rattle.model.specs.Issues.{Slot}
 use Rattle.model.specs.Driving.{Machine, Examination, passed, examine}

@@ -3,7 +3,7 @@ use Rattle.std.specs.Prelude.{◌≡◌, ℕ, ◌+◌, ◌-◌, ◌*◌, ◌%◌
 use Rattle.model.specs.declared.Question.{Question}
 use Rattle.model.specs.declared.Question.TheVariants.{UnitFree, OperandsLanded, IterationRuns, CellInMemory, ResultFree}
 use Rattle.model.specs.declared.Status.{Status}
-use Rattle.model.specs.declared.Status.TheVariants.{Never, Waits}
+use Rattle.model.specs.declared.Status.TheVariants.{Never}
 use Rattle.model.specs.Loop.{operands, makes, in_memory, stride_of, offset_of, cell}
 use Rattle.model.specs.Issues.{Source, constant, register, Slot}
 use Rattle.model.specs.Driving.{Examination, failed, all_below, all_of, awaits, has_landed, iteration_runs}

@@ -1,12 +1,11 @@
 -- The first operation that comes again along a walk.
-use Rattle.std.proofs.Common.{◌≡◌, ℕ, zero, suc, ◌+◌, ◌-◌, ◌*◌, ◌<◌, ◌≤◌, cond, eqb, ◌⊎◌, List, [], ◌∷◌, ◌++◌, length, get_or, take, drop, set, sym, refl, ap, ◌∙◌, subst, inl, inr, add-one, arith}
-use Rattle.std.specs.List.{AllByRecursion as All}
+use Rattle.std.proofs.Common.{◌≡◌, ℕ, zero, suc, ◌+◌, ◌-◌, ◌<◌, ◌≤◌, cond, eqb, List, [], ◌∷◌, ◌++◌, length, get_or, take, drop, set, sym, refl, ap, ◌∙◌, subst, inl, inr, add-one, arith}
 use Rattle.std.proofs.lemmas.List.{take-append-drop, length-take-le, length-drop, get_or-set_same, get_or-set_other, get_or-take}
 use Rattle.std.proofs.ByRecursion.{All-get_or}
-use Rattle.std.proofs.lemmas.Bool.{cases_eq, cases_lt, eq-eqb, ne_eqb}
+use Rattle.std.proofs.lemmas.Bool.{cases_eq, eq-eqb, ne_eqb}
 use Rattle.model.specs.declared.Edge.{Edge}
 use Rattle.model.specs.Loop.{total}
-use Rattle.model.specs.Walks.{edge, Walk, delays, distances, froms, Absent, Distinct, Within}
+use Rattle.model.specs.Walks.{edge, Walk, froms, Absent, Distinct, Within}
 use Rattle.graph_laws.proofs.Total.{total_le, total_same, total_zero, total_swap}
 use Rattle.graph_laws.proofs.Pigeons.{total_hit, total_ones}
 use Rattle.graph_laws.proofs.Cut.{Cut}

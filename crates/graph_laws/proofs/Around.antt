@@ -1,12 +1,12 @@
 -- Walks: that a circuit takes an iteration, and what a circuit says of every schedule.
-use Rattle.std.proofs.Common.{◌≡◌, ℕ, zero, suc, ◌+◌, ◌*◌, ◌<◌, ◌≤◌, ◌⊎◌, List, [], ◌∷◌, ◌++◌, length, sym, refl, ap, ◌∙◌, subst, inl, inr, add-mul, arith}
+use Rattle.std.proofs.Common.{◌≡◌, ℕ, ◌+◌, ◌*◌, ◌<◌, ◌≤◌, List, [], ◌∷◌, length, ap, inl, inr, add-mul, arith}
 use Rattle.std.specs.List.{AllByRecursion as All}
 use Rattle.std.proofs.ByRecursion.{All-get_or}
 use Rattle.std.proofs.lemmas.Bool.{cases_eq, cases_lt}
 use Rattle.model.specs.declared.Edge.{Edge}
 use Rattle.model.specs.Edges.{EdgeMet, edges}
 use Rattle.model.specs.Walks.{edge, Walk, delays, distances, Circuit, Forward}
-use Rattle.model.specs.Minimum.{NoneAbove, CircuitWitness}
+use Rattle.model.specs.Minimum.{NoneAbove}
 use Rattle.model.specs.GraphLaws.{NoStandingCircuit, CircuitExcludes}
 use Rattle.graph_laws.proofs.Listed.{edges_lead_forward}
 

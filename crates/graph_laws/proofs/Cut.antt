@@ -1,13 +1,13 @@
 -- A long walk has a simple circuit in it, and one that no shorter walk equals has a circuit above k.
-use Rattle.std.proofs.Common.{◌≡◌, ℕ, zero, suc, ◌+◌, ◌*◌, ◌<◌, ◌≤◌, ◌⊎◌, List, [], ◌∷◌, ◌++◌, length, sym, refl, ap, ◌∙◌, subst, ap₂, inl, inr, add-mul, arith}
+use Rattle.std.proofs.Common.{◌≡◌, ℕ, suc, ◌+◌, ◌*◌, ◌<◌, ◌≤◌, ◌⊎◌, List, [], ◌∷◌, ◌++◌, length, sym, refl, ap, ◌∙◌, inl, inr, add-mul, arith}
 use Rattle.std.specs.List.{AllByRecursion as All}
 use Rattle.std.proofs.ByRecursion.{All-get_or}
 use Rattle.std.proofs.lemmas.Bool.{cases_eq, cases_lt}
 use Rattle.model.specs.declared.Edge.{Edge}
-use Rattle.model.specs.Walks.{edge, Walk, delays, distances, froms, Absent, Distinct, Circuit, Simple, Within}
+use Rattle.model.specs.Walks.{edge, Walk, delays, distances, froms, Absent, Distinct, Simple, Within}
 use Rattle.model.specs.Relaxation.{rounds}
 use Rattle.model.specs.GraphLaws.{ChangeGivesCircuit}
-use Rattle.graph_laws.proofs.Relaxed.{round_came, short_below, Attained, attained}
+use Rattle.graph_laws.proofs.Relaxed.{round_came, short_below, attained}
 use Rattle.graph_laws.proofs.Pigeons.{pigeons}
 
 module _ (es : List Edge) where

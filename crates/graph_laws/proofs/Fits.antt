@@ -1,9 +1,8 @@
 -- The edges of a loop are within the limits of the code.
-use Rattle.std.proofs.Common.{◌≡◌, ℕ, zero, suc, ◌+◌, ◌*◌, ◌<◌, ◌≤◌, cond, ltb, List, [], ◌∷◌, ◌++◌, length, sym, refl, ap, ◌∙◌, inl, inr, suc-mul, mul-le-mul, arith}
+use Rattle.std.proofs.Common.{ℕ, zero, suc, ◌*◌, ◌<◌, ◌≤◌, ltb, List, [], ◌∷◌, ◌++◌, length, inl, inr, suc-mul, mul-le-mul, arith}
 use Rattle.std.proofs.lemmas.List.{length-append}
 use Rattle.std.proofs.lemmas.Bool.{cases_Bool}
-use Rattle.model.specs.declared.Edge.{Edge}
-use Rattle.model.specs.Loop.{Loop, Operand, literal, variable, Operation, load, store, binary, move, op, operands, Hardware, WellFormed, Named}
+use Rattle.model.specs.Loop.{Loop, Operand, literal, variable, Operation, load, store, binary, move, op, operands, Hardware, Named}
 use Rattle.model.specs.Edges.{each, operand_edge, operand_edges, memory_edge, joins, between, edges}
 use Rattle.model.specs.Limits.{EdgeFits}
 use Rattle.model.specs.GraphLaws.{EdgesFit}

@@ -1,12 +1,11 @@
 -- What holds of every edge of the list, by the rules.
-use Rattle.std.proofs.Common.{◌≡◌, ℕ, zero, suc, ◌+◌, ◌*◌, ◌<◌, ◌≤◌, Bool, true, false, cond, not, ◌&&◌, ◌||◌, eqb, ltb, leb, ◌⊎◌, List, [], ◌∷◌, ◌++◌, length, sym, refl, ap, ◌∙◌, subst, inl, inr, arith}
+use Rattle.std.proofs.Common.{◌≡◌, ℕ, zero, suc, ◌+◌, ◌*◌, ◌<◌, ◌≤◌, true, false, not, ◌&&◌, ◌||◌, eqb, ltb, leb, ◌⊎◌, List, [], ◌∷◌, ◌++◌, length, sym, refl, subst, inl, inr, arith}
 use Rattle.std.specs.List.{AllByRecursion as All}
 use Rattle.std.proofs.ByRecursion.{All-append, All-weaker}
-use Rattle.std.proofs.lemmas.Bool.{cases_eq, cases_lt, cases_Bool, and_parts, and_from, or_cases, or_left, or_right, not-true, not_from_false, eqb-true, eq-eqb, ne_eqb, lt-ltb, le-ltb, le-leb, ltb-true, leb-true, eqb-false, both_ways}
-use Rattle.model.specs.Loop.{Loop, Operand, literal, variable, Operation, load, store, binary, move, op, operands, makes, EachOperand, in_memory, stride_of, offset_of, Hardware, WellFormed, Named}
+use Rattle.std.proofs.lemmas.Bool.{cases_eq, cases_lt, cases_Bool, and_parts, and_from, or_cases, or_left, or_right, not-true, not_from_false, eqb-true, eq-eqb, ne_eqb, lt-ltb, le-ltb, le-leb, ltb-true, leb-true}
+use Rattle.model.specs.Loop.{Loop, Operand, literal, variable, Operation, load, store, binary, move, op, operands, makes, EachOperand, in_memory, stride_of, offset_of, Hardware, Named}
 use Rattle.model.specs.declared.Edge.{Edge}
-use Rattle.model.specs.Edges.{EdgeMet, each, operand_edge, operand_edges, memory_delay, meets, joins, memory_link, memory_edge, between, edges}
-use Rattle.model.specs.Walks.{Within, Forward}
+use Rattle.model.specs.Edges.{each, operand_edge, operand_edges, memory_delay, meets, joins, memory_link, memory_edge, between, edges}
 use Rattle.model.specs.GraphLaws.{Among, OperandEdge, Follows, MemoryEdge, ListMeansRules, EdgesLeadForward, DelaysAreShort}
 
 module _ {A : Type 0} (P : A → Type 0) where

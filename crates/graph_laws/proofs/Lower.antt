@@ -1,13 +1,10 @@
 -- Lower bounds on the interval: by circuits, and by the uses of a class over all rows.
-use Rattle.std.proofs.Common.{◌≡◌, ℕ, zero, suc, ◌+◌, ◌-◌, ◌*◌, ◌/◌, ◌%◌, ◌<◌, ◌≤◌, max, Bool, true, false, cond, eqb, ◌⊎◌, List, [], ◌∷◌, length, sym, refl, ap, ◌∙◌, subst, ap₂, inl, inr, mod-lt, mul_comm, div-lt_iff_lt-mul, mul-le-mul_left, mul-suc, arith}
-use Rattle.std.specs.List.{AllByRecursion as All}
-use Rattle.std.proofs.lemmas.Bool.{cases_eq, cases_lt, cases_Bool, eq-eqb, ne_eqb}
+use Rattle.std.proofs.Common.{◌≡◌, ℕ, zero, suc, ◌+◌, ◌-◌, ◌*◌, ◌/◌, ◌%◌, ◌<◌, ◌≤◌, cond, eqb, length, ◌∙◌, inl, inr, mod-lt, mul_comm, div-lt_iff_lt-mul, mul-suc, arith}
+use Rattle.std.proofs.lemmas.Bool.{cases_lt, cases_Bool}
 use Rattle.model.specs.Loop.{Loop, Hardware, total}
-use Rattle.model.specs.Schedule.{Schedule, row_uses, RowsFit, IsSchedule}
-use Rattle.model.specs.declared.Edge.{Edge}
-use Rattle.model.specs.Edges.{EdgeMet, edges}
-use Rattle.model.specs.Walks.{Circuit, delays, distances}
-use Rattle.model.specs.Minimum.{busy_sum, rounded_up, own_minimum, greatest, resource_minimum, IsMinimum, ClassWitness}
+use Rattle.model.specs.Schedule.{Schedule, row_uses}
+use Rattle.model.specs.Edges.{edges}
+use Rattle.model.specs.Minimum.{busy_sum, rounded_up, own_minimum, greatest}
 use Rattle.model.specs.GraphLaws.{NoSmallerInterval, ClassExcludes}
 use Rattle.graph_laws.proofs.Total.{total_le, total_same, total_zero, total_swap}
 use Rattle.graph_laws.proofs.Pigeons.{total_hit, total_ones}

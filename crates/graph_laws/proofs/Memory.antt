@@ -2,7 +2,7 @@
 use Rattle.std.proofs.Common.{◌≡◌, ℕ, ◌+◌, ◌-◌, ◌*◌, ◌<◌, ◌≤◌, true, false, ◌⊎◌, length, refl, ap, ◌∙◌, inl, inr, mul-le-mul_right, add-mul, arith}
 use Rattle.std.specs.List.{AllByRecursion as All}
 use Rattle.std.proofs.lemmas.Bool.{cases_eq, cases_lt}
-use Rattle.model.specs.Loop.{Loop, Operand, literal, variable, Operation, load, store, binary, move, op, Loads, Stores, makes, in_memory, stride_of, offset_of, cell, Hardware}
+use Rattle.model.specs.Loop.{Loop, Operand, literal, variable, Operation, load, store, binary, move, op, Stores, makes, in_memory, stride_of, offset_of, cell, Hardware}
 use Rattle.model.specs.Edges.{EdgeMet, edges, memory_delay}
 use Rattle.model.specs.Schedule.{Schedule, FewStages}
 use Rattle.model.specs.MemoryOrder.{issue_cycle, Earlier, Touches, MemoryInOrder, Met, OperandsLanded}

@@ -1,10 +1,10 @@
 -- A list of different numbers below n has at most n of them.
-use Rattle.std.proofs.Common.{◌≡◌, ℕ, zero, suc, ◌+◌, ◌<◌, ◌≤◌, cond, eqb, List, [], ◌∷◌, length, sym, refl, ap, ◌∙◌, ap₂, inl, inr, arith}
+use Rattle.std.proofs.Common.{◌≡◌, ℕ, zero, suc, ◌+◌, ◌<◌, ◌≤◌, cond, eqb, List, [], ◌∷◌, length, sym, refl, inl, inr, arith}
 use Rattle.std.specs.List.{AllByRecursion as All}
-use Rattle.std.proofs.lemmas.Bool.{cases_eq, cases_lt, eq-eqb, ne_eqb}
+use Rattle.std.proofs.lemmas.Bool.{cases_eq, eq-eqb, ne_eqb}
 use Rattle.model.specs.Loop.{total}
 use Rattle.model.specs.Walks.{Absent, Distinct}
-use Rattle.graph_laws.proofs.Total.{total_le, total_same, total_zero, total_add}
+use Rattle.graph_laws.proofs.Total.{total_le, total_zero, total_add}
 
 hit_past : (y n : ℕ) → n ≤ y → total (λ v. cond (eqb y v) 1 0) n ≡ 0
 hit_past y zero h = refl

@@ -1,9 +1,8 @@
 -- Relaxation: what a round does, walks of at most r edges, and the fixed point.
-use Rattle.std.proofs.Common.{◌≡◌, ℕ, zero, suc, ◌+◌, ◌-◌, ◌*◌, ◌<◌, ◌≤◌, max, cond, eqb, ◌⊎◌, List, [], ◌∷◌, ◌++◌, length, get_or, sym, refl, ap, ◌∙◌, subst, inl, inr, add-mul, arith}
+use Rattle.std.proofs.Common.{◌≡◌, ℕ, zero, suc, ◌+◌, ◌*◌, ◌<◌, ◌≤◌, max, ◌⊎◌, List, [], ◌∷◌, length, refl, ap, inl, inr, add-mul, arith}
 use Rattle.std.proofs.lemmas.Bool.{cases_eq, cases_lt, eq-eqb, ne_eqb}
 use Rattle.model.specs.declared.Edge.{Edge}
-use Rattle.model.specs.Walks.{edge, Walk, delays, distances, Circuit}
-use Rattle.model.specs.Minimum.{NoneAbove, IsHeight}
+use Rattle.model.specs.Walks.{edge, Walk, delays, distances}
 use Rattle.model.specs.Relaxation.{offer, round, rounds, Fixed}
 use Rattle.model.specs.GraphLaws.{FixedIsHeight}
 

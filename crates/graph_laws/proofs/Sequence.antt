@@ -1,7 +1,7 @@
 -- The sequential times are a schedule: no two uses share a row.
-use Rattle.std.proofs.Common.{◌≡◌, ℕ, zero, suc, ◌+◌, ◌*◌, ◌%◌, ◌<◌, ◌≤◌, Bool, true, false, cond, eqb, ◌⊎◌, length, sym, refl, ap, ◌∙◌, subst, inl, inr, mod-eq_of_lt, arith}
-use Rattle.std.proofs.lemmas.Bool.{cases_eq, cases_lt, cases_Bool, eq-eqb, ne_eqb, eqb-true}
-use Rattle.model.specs.Loop.{Loop, Hardware, total, WellFormed}
+use Rattle.std.proofs.Common.{◌≡◌, ℕ, zero, suc, ◌+◌, ◌%◌, ◌<◌, ◌≤◌, cond, eqb, length, sym, refl, ap, ◌∙◌, inl, inr, mod-eq_of_lt, arith}
+use Rattle.std.proofs.lemmas.Bool.{cases_eq, cases_lt, cases_Bool, eq-eqb, ne_eqb}
+use Rattle.model.specs.Loop.{Loop, Hardware, total}
 use Rattle.model.specs.Schedule.{row_uses, sequential}
 use Rattle.model.specs.GraphLaws.{SequentialIsSchedule}
 use Rattle.graph_laws.proofs.Total.{total_le, total_same, total_zero, total_longer}

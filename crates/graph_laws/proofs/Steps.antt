@@ -1,5 +1,5 @@
 -- One more edge of a round.
-use Rattle.std.proofs.Common.{◌≡◌, ℕ, zero, suc, ◌+◌, ◌-◌, ◌*◌, ◌<◌, ◌≤◌, max, cond, eqb, ◌⊎◌, List, [], ◌∷◌, ◌++◌, length, get_or, take, set, replicate, sym, refl, ap, ◌∙◌, subst, subst₂, inl, inr, mul-le-mul, add-one, arith}
+use Rattle.std.proofs.Common.{◌≡◌, ℕ, zero, suc, ◌+◌, ◌-◌, ◌*◌, ◌<◌, ◌≤◌, max, cond, eqb, List, [], ◌∷◌, ◌++◌, length, get_or, take, set, replicate, sym, refl, ap, ◌∙◌, subst, subst₂, inl, inr, mul-le-mul, add-one, arith}
 use mathlib.Core.Path.{fun_ext}
 use Rattle.std.specs.List.{AllByRecursion as All}
 use Rattle.std.proofs.lemmas.List.{take_more, get_or-set_same, get_or-set_other}
@@ -13,7 +13,7 @@ use Rattle.graph_laws.proofs.Pigeons.{pigeons}
 use Rattle.graph_laws.proofs.Cut.{change_gives_circuit}
 use Rattle.graph_laws.proofs.Relaxed.{round_keeps, round_came, fixed_is_height}
 use Rattle.model.specs.Limits.{EdgeFits}
-use Rattle.graph_laws.specs.Trails.{value, Offers, Marked, Traced}
+use Rattle.graph_laws.specs.Trails.{value, Marked, Traced}
 
 pub fits_at : (n : ℕ) (es : List Edge) (i : ℕ) → All (EdgeFits n) es → i < length es → EdgeFits n (edge es i)
 fits_at n es i s l = All-get_or (EdgeFits n) es i _ l s

@@ -1,12 +1,12 @@
 -- The minimum from its two parts.
-use Rattle.std.proofs.Common.{◌≡◌, ℕ, zero, suc, ◌+◌, ◌-◌, ◌*◌, ◌<◌, ◌≤◌, max, cond, eqb, ◌⊎◌, List, length, get_or, sym, refl, ap, ◌∙◌, subst, inl, inr, div-lt_iff_lt-mul, add-one, arith}
+use Rattle.std.proofs.Common.{◌≡◌, ℕ, ◌+◌, ◌*◌, ◌<◌, ◌≤◌, cond, eqb, List, length, get_or, refl, ap, inl, inr, div-lt_iff_lt-mul, add-one, arith}
 use Rattle.std.proofs.ByRecursion.{All-get_or}
 use Rattle.std.proofs.lemmas.Bool.{cases_lt, eq-eqb, ne_eqb}
 use Rattle.model.specs.declared.Edge.{Edge}
 use Rattle.model.specs.declared.Timing.{Timing}
-use Rattle.model.specs.Loop.{Hardware, total}
+use Rattle.model.specs.Loop.{Hardware}
 use Rattle.model.specs.Limits.{timing, hardware, TimingFits, MachineFits}
-use Rattle.model.specs.Minimum.{RecurrenceMinimum, IsMinimum, ClassWitness, greatest, rounded_up, own_minimum, resource_minimum, busy_sum}
+use Rattle.model.specs.Minimum.{RecurrenceMinimum, IsMinimum, ClassWitness, rounded_up, own_minimum, resource_minimum, busy_sum}
 use Rattle.graph_laws.specs.Trails.{Leads}
 use Rattle.graph_laws.proofs.Total.{total_longer}
 use Rattle.graph_laws.proofs.Lower.{rounded_least}

@@ -1,8 +1,8 @@
 -- The walk that the rounds stand for, edge by edge.
-use Rattle.std.proofs.Common.{◌≡◌, ℕ, zero, suc, ◌+◌, ◌-◌, ◌*◌, ◌<◌, ◌≤◌, ◌⊎◌, List, [], ◌∷◌, ◌++◌, length, get_or, take, set, sym, refl, ap, ◌∙◌, subst, inl, inr, add-mul, arith}
+use Rattle.std.proofs.Common.{◌≡◌, ℕ, suc, ◌+◌, ◌-◌, ◌*◌, ◌<◌, ◌≤◌, List, [], ◌∷◌, length, take, set, refl, ap, add-mul, arith}
 use Rattle.std.proofs.lemmas.List.{take_more_set, length-take-le}
 use Rattle.model.specs.declared.Edge.{Edge}
-use Rattle.model.specs.Walks.{edge, Walk, delays, distances}
+use Rattle.model.specs.Walks.{edge, distances}
 use Rattle.model.specs.Relaxation.{rounds}
 use Rattle.graph_laws.proofs.Cut.{delays_append, distances_append, walk_append}
 use Rattle.graph_laws.specs.Trails.{Marked, Partly, BestWalk}

@@ -1,12 +1,11 @@
 -- The sequential times meet every edge at the sum of the latencies; and how the least interval is known.
-use Rattle.std.proofs.Common.{◌≡◌, ℕ, zero, suc, ◌+◌, ◌-◌, ◌*◌, ◌<◌, ◌≤◌, max, Bool, true, false, cond, eqb, ◌⊎◌, List, [], ◌∷◌, length, sym, refl, ap, ◌∙◌, subst, inl, inr, mul-le-mul_right, mul-le-mul_left, arith}
+use Rattle.std.proofs.Common.{◌≡◌, ℕ, suc, ◌+◌, ◌*◌, ◌<◌, ◌≤◌, eqb, length, inl, inr, mul-le-mul_right, mul-le-mul_left, arith}
 use Rattle.std.specs.List.{AllByRecursion as All}
 use Rattle.std.proofs.lemmas.Bool.{cases_eq, cases_lt, cases_Bool}
 use Rattle.model.specs.Loop.{Loop, Operand, literal, variable, op, Hardware, total, WellFormed, Named}
-use Rattle.model.specs.declared.Edge.{Edge}
 use Rattle.model.specs.Edges.{EdgeMet, edges, memory_delay}
-use Rattle.model.specs.Walks.{Circuit, delays, distances}
-use Rattle.model.specs.Minimum.{busy_sum, own_minimum, NoneAbove, IsMinimum}
+use Rattle.model.specs.Walks.{delays, distances}
+use Rattle.model.specs.Minimum.{busy_sum, own_minimum}
 use Rattle.model.specs.GraphLaws.{AtMostSequential, CircuitTellsMinimum}
 use Rattle.graph_laws.proofs.Total.{total_le, total_longer}
 use Rattle.graph_laws.proofs.Listed.{OfOperand, all_edges, each_operand, forward_edge, Joined, joined, delay_one}

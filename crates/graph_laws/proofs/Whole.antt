@@ -1,8 +1,8 @@
 -- The circuit that the code names is a witness.
-use Rattle.std.proofs.Common.{◌≡◌, ℕ, zero, suc, ◌+◌, ◌-◌, ◌*◌, ◌<◌, ◌≤◌, ◌⊎◌, List, [], ◌∷◌, ◌++◌, length, get_or, take, drop, set, sym, refl, ap, ◌∙◌, subst, inl, inr, add-one, arith, take-add}
+use Rattle.std.proofs.Common.{◌≡◌, ℕ, zero, suc, ◌+◌, ◌-◌, ◌*◌, ◌<◌, ◌≤◌, List, [], ◌∷◌, ◌++◌, length, get_or, take, drop, set, sym, refl, ap, ◌∙◌, subst, inl, inr, add-one, arith, take-add}
 use Rattle.std.specs.List.{AllByRecursion as All}
 use Rattle.std.proofs.lemmas.List.{length-take-le, length-drop, drop-drop, drop-take, take-take, drop_more, take_more, take_more_set, get_or-take, get_or-drop, append_assoc}
-use Rattle.std.proofs.lemmas.Bool.{cases_eq, cases_lt}
+use Rattle.std.proofs.lemmas.Bool.{cases_lt}
 use Rattle.model.specs.declared.Edge.{Edge}
 use Rattle.model.specs.Walks.{edge, Walk, delays, distances, froms, Simple, Within}
 use Rattle.model.specs.Minimum.{CircuitWitness}
@@ -11,7 +11,7 @@ use Rattle.graph_laws.proofs.Relaxed.{short_below}
 use Rattle.graph_laws.proofs.Cut.{Cut, cut_gains, risen}
 use Rattle.graph_laws.proofs.Turn.{turned}
 use Rattle.graph_laws.specs.Trails.{BestWalk, Repeats}
-use Rattle.graph_laws.proofs.Again.{repeats_cut, next_edge}
+use Rattle.graph_laws.proofs.Again.{repeats_cut}
 
 -- a walk that the last round made better has as many edges as rounds
 pub exact_length : (es : List Edge) (k count u : ℕ) (xs : List ℕ) → 0 < count → BestWalk es k count u xs → rounds k es (count - 1) u < rounds k es count u → count ≤ length xs

@@ -1,7 +1,7 @@
 -- What a refused call is told: the number of the question, the layer, and of a text the line (0 for the whole) and the column of a token.
-use Rattle.std.specs.Prelude.{ℕ, cond, Some, None, Ok, Err, Option, Result, ◌==◌}
+use Rattle.std.specs.Prelude.{ℕ, cond, Some, Ok, Err, Option, Result, ◌==◌}
 use Rattle.model.specs.declared.Layer.{Layer}
-use Rattle.model.specs.declared.Layer.TheVariants.{Text, Graph, Plan, Code}
+use Rattle.model.specs.declared.Layer.TheVariants.{Text, Graph}
 use Rattle.model.specs.Questions.{Refusal}
 
 pub record Fault : Type 0 where

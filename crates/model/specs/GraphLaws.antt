@@ -1,7 +1,7 @@
 -- The laws of edges, circuits and the minimum.
 use Rattle.std.specs.Prelude.{◌≡◌, ℕ, suc, ◌+◌, ◌*◌, ◌<◌, ◌≤◌, true, false, ◌⊎◌, ◌↔◌, List, [], ◌∷◌, length}
 use Rattle.std.specs.List.{AllByRecursion as All}
-use Rattle.model.specs.Loop.{Loop, Operand, variable, op, operands, makes, in_memory, stride_of, offset_of, Hardware, total, WellFormed}
+use Rattle.model.specs.Loop.{Loop, variable, op, operands, makes, in_memory, stride_of, offset_of, Hardware, total, WellFormed}
 use Rattle.model.specs.Edges.{Edge, EdgeMet, edges, memory_delay}
 use Rattle.model.specs.Schedule.{Schedule, IsSchedule, row_uses, sequential}
 use Rattle.model.specs.Walks.{edge, delays, distances, Circuit, Simple, Within, Forward}

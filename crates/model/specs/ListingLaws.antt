@@ -1,8 +1,8 @@
 -- The laws of the listing.
-use Rattle.std.specs.Prelude.{◌≡◌, ℕ, ◌+◌, ◌*◌, ◌<◌, ◌≤◌, List, length}
+use Rattle.std.specs.Prelude.{◌≡◌, ℕ, ◌*◌, ◌<◌, ◌≤◌, List, length}
 use Rattle.model.specs.declared.Timing.{Timing}
 use Rattle.model.specs.Loop.{Loop, op, Hardware, WellFormed}
-use Rattle.model.specs.Schedule.{Schedule, stages, FewStages}
+use Rattle.model.specs.Schedule.{Schedule, FewStages}
 use Rattle.model.specs.Schemes.{Meaning, Lawful}
 use Rattle.model.specs.Issues.{passes, variable_number}
 use Rattle.model.specs.Pipelining.{Means}

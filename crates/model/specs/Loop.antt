@@ -1,5 +1,5 @@
 -- A loop body: its operations, and what the machine makes of each.
-use Rattle.std.specs.Prelude.{◌≡◌, ℕ, zero, suc, ◌+◌, ◌*◌, ◌<◌, ◌≤◌, max, Bool, true, false, List, [], ◌∷◌, length, ℤ, pos, slice_index_or}
+use Rattle.std.specs.Prelude.{◌≡◌, ℕ, zero, suc, ◌+◌, ◌*◌, ◌<◌, ◌≤◌, Bool, true, false, List, [], ◌∷◌, length, ℤ, pos, slice_index_or}
 use Rattle.model.specs.declared.Operator.{Operator}
 
 -- A literal, or the value that an operation, by its number, made so many iterations earlier.

@@ -1,14 +1,13 @@
 -- The loop text.
-use Rattle.std.specs.Prelude.{ℕ, zero, suc, ◌+◌, Bool, true, false, cond, not, ◌&&◌, ◌||◌, List, [], ◌∷◌, ◌++◌, map, length, drop, ℤ, pos, neg_ℤ, Some, None, Ok, Err, codes, count_by, Option, Result, ◌==◌, nat_le, nat_lt, slice_index}
+use Rattle.std.specs.Prelude.{ℕ, zero, suc, ◌+◌, Bool, true, false, cond, not, ◌&&◌, List, [], ◌∷◌, ◌++◌, map, length, drop, ℤ, pos, neg_ℤ, Some, None, Ok, Err, codes, count_by, Option, Result, ◌==◌, nat_le, nat_lt, slice_index}
 use Rattle.std.specs.List.{flat_map}
 use Rattle.std.specs.Str.{bytes_eq}
 use Rattle.model.specs.declared.Code.{Code}
 use Rattle.model.specs.declared.Code.TheVariants.{Load, Store, Add, Sub, Mul, Move}
-use Rattle.model.specs.declared.Operator.{Operator}
 use Rattle.model.specs.declared.Operator.TheVariants.{Plus, Minus, Times}
 use Rattle.model.specs.Shapes.{some, between, has_some, is_reserved, value, name_of, after_at, Kind, word, number, operand, other}
 use Rattle.model.specs.Lines.{Line, Lexeme, tokens, tok, amount, Want, fixed, a_name, a_number, an_operand, form_among, is_digits}
-use Rattle.model.specs.Questions.{Answer, good, bad, asked, at_line, Check, check, each, printable, formed_by, Refusal, Rules, reading}
+use Rattle.model.specs.Questions.{Answer, good, asked, at_line, Check, check, each, printable, formed_by, Refusal, Rules, reading}
 use Rattle.model.specs.Loop.{Operand, literal, variable, Operation, load, store, binary, move, Loop, operands, on_operands, in_memory}
 
 -- An operand as it is written: a literal, or a name for the value of so many iterations earlier.

@@ -1,5 +1,5 @@
 -- The plan: the first interval at which the search succeeds, or the sequential schedule.
-use Rattle.std.specs.Prelude.{◌≡◌, ℕ, zero, suc, ◌+◌, ◌-◌, ◌<◌, ◌≤◌, Bool, true, false, cond, ◌&&◌, List, length, nat_le}
+use Rattle.std.specs.Prelude.{◌≡◌, ℕ, zero, suc, ◌+◌, ◌-◌, ◌≤◌, Bool, false, cond, ◌&&◌, List, length, nat_le}
 use Rattle.model.specs.Loop.{Loop, Hardware, total}
 use Rattle.model.specs.Edges.{Edge}
 use Rattle.model.specs.Minimum.{IsMinimum, IsHeight}

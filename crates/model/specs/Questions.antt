@@ -1,5 +1,5 @@
 -- Questions and their answers, and the reading of a text as the first no.
-use Rattle.std.specs.Prelude.{◌≡◌, ℕ, ◌+◌, Bool, true, false, cond, List, [], ◌∷◌, ◌++◌, map, length, Some, None, Ok, Err, fold, Option, Result, nat_le}
+use Rattle.std.specs.Prelude.{ℕ, Bool, cond, List, [], ◌∷◌, length, Some, None, Ok, Err, Option, Result, nat_le}
 use Rattle.model.specs.Lines.{Line, lines_of, Lexeme}
 use Rattle.model.specs.Shapes.{every, between}
 

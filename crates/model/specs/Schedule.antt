@@ -1,5 +1,5 @@
 -- Schedules: what it is for times to be one.
-use Rattle.std.specs.Prelude.{◌≡◌, ℕ, zero, suc, ◌+◌, ◌*◌, ◌/◌, ◌%◌, ◌<◌, ◌≤◌, max, cond, length, ◌==◌}
+use Rattle.std.specs.Prelude.{ℕ, zero, suc, ◌+◌, ◌*◌, ◌/◌, ◌%◌, ◌<◌, ◌≤◌, max, cond, length, ◌==◌}
 use Rattle.std.specs.List.{AllByRecursion as All}
 use Rattle.model.specs.Loop.{Loop, Hardware, total}
 use Rattle.model.specs.Edges.{EdgeMet, edges}

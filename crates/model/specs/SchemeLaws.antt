@@ -1,7 +1,7 @@
 -- What is proved of the two schemes.
-use Rattle.std.specs.Prelude.{◌≡◌, ℕ, ◌+◌, ◌-◌, ◌*◌, ◌/◌, ◌%◌, ◌<◌, ◌≤◌, List, [], ◌∷◌, length, take, ℤ, pos, ◌+ℤ◌, ◌-ℤ◌}
+use Rattle.std.specs.Prelude.{◌≡◌, ℕ, ◌+◌, ◌-◌, ◌*◌, ◌/◌, ◌%◌, ◌<◌, ◌≤◌, [], ◌∷◌, length, take, ℤ, pos, ◌+ℤ◌, ◌-ℤ◌}
 use Rattle.std.specs.Int.{int_rem_euclid}
-use Rattle.model.specs.Lives.{Life, Table, life, Limits}
+use Rattle.model.specs.Lives.{Table, life, Limits}
 use Rattle.model.specs.Schemes.{Meaning, Apart, Lawful, widths, rotating_need, rotating, expanded_turns, expanded_need, expanded}
 
 -- A scheme that accepted t last keeps the ranges, its names lead to its places, and instances that share a cycle have places of their own.

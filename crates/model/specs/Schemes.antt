@@ -1,6 +1,6 @@
 -- Register schemes: what one means, the law of places, and the rotating and the expanded scheme.
-use Rattle.std.specs.Prelude.{◌≡◌, ℕ, zero, suc, ◌+◌, ◌-◌, ◌*◌, ◌/◌, ◌%◌, ◌<◌, ◌≤◌, max, cond, ◌&&◌, List, [], ◌∷◌, length, take, nat_le, nat_lt}
-use Rattle.model.specs.Lives.{Life, Table, life, Limits, Alive}
+use Rattle.std.specs.Prelude.{◌≡◌, ℕ, ◌+◌, ◌-◌, ◌*◌, ◌/◌, ◌%◌, ◌<◌, ◌≤◌, max, cond, ◌&&◌, List, [], ◌∷◌, length, take, nat_le, nat_lt}
+use Rattle.model.specs.Lives.{Life, Table, life, Alive}
 
 -- What a scheme means: the number of its registers, what it needs for a table, the number of variables of the table that it accepted last, its turns,
 -- the register of a variable in an iteration, the name for a variable, a copy and a number of passes back, and the register of a name in a pass.

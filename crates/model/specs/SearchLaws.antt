@@ -1,5 +1,5 @@
 -- What the search and the plan guarantee.
-use Rattle.std.specs.Prelude.{◌≡◌, ℕ, ◌+◌, ◌-◌, ◌*◌, ◌^◌, ◌<◌, ◌≤◌, true, false, length, is_some, Some, None, Option}
+use Rattle.std.specs.Prelude.{◌≡◌, ℕ, ◌-◌, ◌*◌, ◌^◌, ◌<◌, ◌≤◌, true, false, length, is_some, Some, None, Option}
 use Rattle.model.specs.Loop.{Loop, Hardware, total, WellFormed}
 use Rattle.model.specs.Edges.{edges}
 use Rattle.model.specs.Minimum.{IsMinimum}

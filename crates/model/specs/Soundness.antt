@@ -2,11 +2,10 @@
 use Rattle.std.specs.Prelude.{◌≡◌, ℕ, zero, suc, Bool, true, false, ◌&&◌, ◌||◌, List, map, length, ℤ, pos, negsuc, Some, None, Ok, count_by, Option, ◌==◌, nat_le, nat_lt, slice_index_or}
 use Rattle.model.specs.declared.Code.{Code}
 use Rattle.model.specs.declared.Code.TheVariants.{Load, Store, Add, Sub, Mul, Move}
-use Rattle.model.specs.declared.Operator.{Operator}
 use Rattle.model.specs.declared.Operator.TheVariants.{Plus, Minus, Times}
 use Rattle.model.specs.declared.Timing.{Timing}
 use Rattle.model.specs.Shapes.{every, between}
-use Rattle.model.specs.MachineText.{Class, Machine, code_number, read_machine}
+use Rattle.model.specs.MachineText.{Machine, code_number, read_machine}
 use Rattle.model.specs.Loop.{Operand, literal, variable, Operation, load, store, binary, move, Loop, op, makes, in_memory, Hardware, WellFormed}
 use Rattle.model.specs.LoopText.{read_loop}
 use Rattle.model.specs.Limits.{MachineFits, hardware as listed}

@@ -1,8 +1,8 @@
 -- What a reading is for: a text is accepted exactly if every question's answer is yes, and a refusal gives the first no.
-use Rattle.std.specs.Prelude.{◌≡◌, ℕ, List, [], ◌∷◌, ◌++◌, map, Ok, Err, fold, Result}
+use Rattle.std.specs.Prelude.{◌≡◌, ℕ, List, [], ◌∷◌, ◌++◌, map, Ok, Err, fold}
 use Rattle.std.specs.List.{flat_map}
 use Rattle.model.specs.Lines.{Line, lines_of}
-use Rattle.model.specs.Questions.{Answer, good, bad, Asked, asked, Refusal, Rules, before, reading}
+use Rattle.model.specs.Questions.{good, bad, Asked, asked, Refusal, Rules, before, reading}
 use Rattle.model.specs.MachineText.{Machine, machine_rules, class_of}
 use Rattle.model.specs.LoopText.{Statement, loop_rules, statement_of}
 

@@ -1,5 +1,5 @@
 -- Walks along edges, by the numbers of the edges.
-use Rattle.std.specs.Prelude.{◌≡◌, ℕ, ◌+◌, ◌*◌, ◌<◌, ◌≤◌, List, [], ◌∷◌, map, length, ◌≢◌, slice_index_or}
+use Rattle.std.specs.Prelude.{◌≡◌, ℕ, ◌+◌, ◌<◌, List, [], ◌∷◌, length, ◌≢◌, slice_index_or}
 use Rattle.std.specs.List.{AllByRecursion as All}
 use Rattle.model.specs.Edges.{Edge}
 

@@ -18,7 +18,7 @@ use Rattle.pipelining.proofs.Landing.{lands_now, value_kept}
 use Rattle.pipelining.proofs.Driven.{driven}
 use Rattle.pipelining.proofs.Row.{values_stay, register_then}
 use Rattle.pipelining.proofs.Run.{timed_value}
-use Rattle.pipelining.proofs.Drive.{then, Made, Kept, kept_at, alive_at, machine_right}
+use Rattle.pipelining.proofs.Drive.{Made, Kept, kept_at, alive_at, machine_right}
 
 module _ (ops : Loop) (w : Schedule) (trips : ℕ) (home : ℕ → ℕ → ℕ) (delay : ℕ → ℕ) (positive : 0 < w.interval) where
   -- What operation j makes in iteration i reaches register r in cycle c.

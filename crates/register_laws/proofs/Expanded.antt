@@ -1,11 +1,11 @@
 -- The expanded scheme keeps the law.
-use Rattle.std.proofs.Common.{◌≡◌, ℕ, zero, suc, ◌+◌, ◌-◌, ◌*◌, ◌/◌, ◌%◌, ◌<◌, ◌≤◌, max, Bool, true, false, cond, ◌&&◌, ltb, leb, ◌⊎◌, List, [], ◌∷◌, length, get_or, take, sym, refl, ap, ◌∙◌, subst, inl, inr, mul-le-mul_right, mod-lt, add-mul, mul-le-mul_left, le-div_iff_mul-le, mul-one, mul-add, arith}
+use Rattle.std.proofs.Common.{◌≡◌, ℕ, zero, suc, ◌+◌, ◌-◌, ◌*◌, ◌/◌, ◌%◌, ◌<◌, ◌≤◌, max, ◌&&◌, ltb, leb, List, [], ◌∷◌, length, get_or, take, sym, refl, ap, ◌∙◌, subst, inl, inr, mod-lt, add-mul, mul-le-mul_left, le-div_iff_mul-le, mul-one, mul-add, arith}
 use native.Mathlib.Nat.{div-add-mod}
-use Rattle.std.proofs.lemmas.Bool.{cases_Bool, cases_lt, cases_order, and_parts, and_from, ltb-true, ltb-false, leb-true, lt-ltb, le-ltb, le-leb, cond-true, cond-false, cond_both}
+use Rattle.std.proofs.lemmas.Bool.{cases_Bool, cases_lt, cases_order, and_parts, and_from, ltb-true, leb-true, lt-ltb, le-ltb, le-leb, cond-true, cond-false, cond_both}
 use Rattle.model.specs.declared.Life.{Life}
 use Rattle.model.specs.Lives.{Table, no_life, life, Limits, Alive}
-use Rattle.model.specs.Schemes.{Meaning, Apart, Nameable, Lawful, less, want, greatest_want, expanded_turns, expanded_need, expanded_with, expanded}
-use Rattle.model.specs.SchemeLaws.{Keeps, KeepsLaw}
+use Rattle.model.specs.Schemes.{Apart, Nameable, Lawful, less, want, greatest_want, expanded_turns, expanded_need, expanded_with, expanded}
+use Rattle.model.specs.SchemeLaws.{KeepsLaw}
 use Rattle.register_laws.proofs.Modulo.{back_of_mod}
 
 -- U v + x < U (v + 1) for x < U

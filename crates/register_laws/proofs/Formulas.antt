@@ -1,12 +1,12 @@
 -- The schemes' places, names and registers by the formulas over the integers.
-use Rattle.std.proofs.Common.{◌≡◌, ℕ, ◌+◌, ◌-◌, ◌*◌, ◌/◌, ◌%◌, ◌<◌, ◌≤◌, cond, ◌&&◌, ltb, leb, length, take, ℤ, pos, ◌+ℤ◌, ◌-ℤ◌, sym, refl, ap, ◌∙◌, mul_comm, arith}
+use Rattle.std.proofs.Common.{◌≡◌, ℕ, ◌+◌, ◌-◌, ◌*◌, ◌/◌, ◌%◌, ◌<◌, ◌≤◌, cond, ◌&&◌, ltb, leb, length, take, pos, ◌+ℤ◌, ◌-ℤ◌, sym, refl, ap, ◌∙◌, mul_comm, arith}
 use native.Mathlib.Nat.{mod-add-mod}
 use Rattle.std.specs.Int.{int_rem_euclid}
 use Rattle.std.proofs.lemmas.Int.{int_rem_euclid_is, ints}
 use Rattle.std.proofs.lemmas.Bool.{and_from, lt-ltb, le-leb, cond-true}
-use Rattle.model.specs.Lives.{Table, life}
-use Rattle.model.specs.Schemes.{less, widths, rotating_base, rotating, expanded_turns, expanded}
-use Rattle.model.specs.SchemeLaws.{Formulas, PlacesByFormula}
+use Rattle.model.specs.Lives.{life}
+use Rattle.model.specs.Schemes.{less, widths, rotating_base, expanded_turns}
+use Rattle.model.specs.SchemeLaws.{PlacesByFormula}
 use Rattle.register_laws.proofs.Modulo.{split}
 use Rattle.register_laws.proofs.Rotating as turning
 use Rattle.register_laws.proofs.Expanded.{some_want}

@@ -1,5 +1,5 @@
 -- Differences modulo m.
-use Rattle.std.proofs.Common.{◌≡◌, ℕ, zero, suc, ◌+◌, ◌-◌, ◌*◌, ◌%◌, ◌<◌, ◌≤◌, sym, refl, ap, ◌∙◌, add-mul, arith}
+use Rattle.std.proofs.Common.{◌≡◌, ℕ, zero, suc, ◌+◌, ◌-◌, ◌*◌, ◌%◌, ◌<◌, ◌≤◌, sym, ap, ◌∙◌, add-mul, arith}
 use native.Mathlib.Nat.{mod-add-mod, add-mul-mod_self_left}
 use Rattle.model.specs.Schemes.{less}
 

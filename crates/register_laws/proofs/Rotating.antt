@@ -1,12 +1,12 @@
 -- The rotating scheme keeps the law.
-use Rattle.std.proofs.Common.{◌≡◌, ℕ, zero, suc, ◌+◌, ◌-◌, ◌*◌, ◌/◌, ◌%◌, ◌<◌, ◌≤◌, Bool, true, false, cond, ◌&&◌, ltb, leb, ◌⊎◌, List, [], ◌∷◌, length, get_or, take, sym, refl, ap, ◌∙◌, subst, inl, inr, le_trans, le-div_iff_mul-le, div-mul-le_self, arith}
+use Rattle.std.proofs.Common.{◌≡◌, ℕ, zero, suc, ◌+◌, ◌-◌, ◌*◌, ◌/◌, ◌%◌, ◌<◌, ◌≤◌, Bool, true, cond, ◌&&◌, ltb, leb, List, [], ◌∷◌, length, get_or, take, sym, refl, ap, ◌∙◌, subst, inl, inr, le_trans, le-div_iff_mul-le, div-mul-le_self, arith}
 use mathlib.Core.Path.{fun_ext}
 use native.Mathlib.Nat.{add-mul-div_right}
 use Rattle.std.proofs.lemmas.Bool.{cases_Bool, cases_lt, cases_order, and_parts, and_from, ltb-true, leb-true, lt-ltb, le-ltb, le-leb, cond-true, cond-false, cond_both}
 use Rattle.model.specs.declared.Life.{Life}
-use Rattle.model.specs.Lives.{Table, no_life, life, Limits, Alive}
-use Rattle.model.specs.Schemes.{Meaning, Apart, Nameable, Lawful, less, width, widths, rotating_need, rotating_base, rotating_with, rotating}
-use Rattle.model.specs.SchemeLaws.{Keeps, KeepsLaw}
+use Rattle.model.specs.Lives.{Table, no_life, life, Limits}
+use Rattle.model.specs.Schemes.{Apart, Nameable, Lawful, less, width, widths, rotating_need, rotating_base, rotating_with, rotating}
+use Rattle.model.specs.SchemeLaws.{KeepsLaw}
 use Rattle.register_laws.proofs.Modulo.{forth_and_back}
 
 -- a lower variable's registers end before a higher one's begin
