@@ -1,5 +1,5 @@
 -- The forms of a line.
-use Rattle.std.proofs.Common.{◌≡◌, ℕ, Bool, true, false, cond, ◌&&◌, List, [], ◌∷◌, length, drop, Some, None, codes, Option, sym, refl, ap, ◌∙◌, arith}
+use Rattle.std.proofs.Common.{◌≡◌, ℕ, true, false, cond, List, length, drop, Some, None, codes, Option, sym, refl, ap, ◌∙◌, arith}
 use Rattle.std.specs.Option as options
 use Rattle.std.proofs.lemmas.Bool.{and_parts, and_from, and_left, and_right, cond-true, cond-false}
 use Rattle.std.specs.Str.{bytes_eq}
@@ -9,7 +9,7 @@ use Rattle.script.specs.Spelling.{length_in}
 use Rattle.script.specs.Cells.{count_of}
 use Rattle.script.specs.declared.line.SchemeName.TheVariants.{Rotating, Expanded}
 use Rattle.script.specs.declared.line.DomainName.TheVariants.{Words, Floats}
-use Rattle.script.specs.Script.{DomainName, Run, begins, is_quoted, body_of, or_empty, quoted, expand_of, run_of, run_by, words_of, buffers, next_length, rest, cells_fit, setting_of, Line, scheme, domain, wrong}
+use Rattle.script.specs.Script.{DomainName, begins, is_quoted, body_of, or_empty, quoted, expand_of, run_of, run_by, words_of, buffers, next_length, rest, cells_fit, setting_of, scheme, domain, wrong}
 
 pub length_some : (o : Option (List ℕ)) → options.is_some (length_in o) ≡ has_some o
 length_some None = refl

@@ -1,10 +1,9 @@
 -- A text that is spelled byte by byte.
-use Rattle.std.proofs.Common.{◌≡◌, ℕ, ◌+◌, ◌-◌, ◌<◌, ◌≤◌, Bool, true, false, cond, leb, List, [], ◌∷◌, ◌++◌, length, get_or, take, drop, set, Some, None, Option, sym, refl, ap, ◌∙◌, arith}
+use Rattle.std.proofs.Common.{◌≡◌, ℕ, ◌+◌, ◌<◌, ◌≤◌, true, leb, List, [], ◌∷◌, ◌++◌, length, get_or, take, drop, set, Some, None, Option, sym, refl, ap, ◌∙◌, arith}
 use Rattle.std.proofs.lemmas.List.{at_drop_more, at_drop_all, append_assoc, append-nil, take_more_set, drop-set-lt, drop-drop, length-take-le, take-append-drop}
 use Rattle.std.proofs.lemmas.Bool.{le-leb}
 use Rattle.script.specs.declared.escapes.After.{After}
 use Rattle.script.specs.declared.escapes.After.TheVariants.{Plain, Backslash, Hex, Digit}
-use Rattle.script.specs.declared.escapes.Step.{Step}
 use Rattle.script.specs.declared.escapes.Step.TheVariants.{Turn, Put, Wrong}
 use Rattle.script.specs.Escapes.{spelled, put, go_on, step_of, closed}
 use Rattle.script.specs.Spelling.{length_in, ended_at, fitting, filled}

@@ -1,5 +1,5 @@
 -- Numbers and cells as a script writes them.
-use Rattle.std.specs.Prelude.{ℕ, ◌+◌, ◌*◌, ◌^◌, Bool, true, false, cond, ◌&&◌, List, length, Some, None, codes, fold, Option, ◌==◌, from_bits, nat_le, nat_lt, Float}
+use Rattle.std.specs.Prelude.{ℕ, ◌+◌, ◌*◌, ◌^◌, Bool, cond, ◌&&◌, List, length, Some, None, codes, fold, Option, ◌==◌, from_bits, nat_le, nat_lt, Float}
 use Rattle.std.specs.Float.{nan, binary64}
 use Rattle.std.specs.Str.{bytes_eq}
 use Rattle.model.specs.Shapes.{every, between, digit, value, has_some}

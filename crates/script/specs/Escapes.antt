@@ -1,5 +1,5 @@
 -- The text that stands between the quotes of a call, byte by byte.
-use Rattle.std.specs.Prelude.{ℕ, ◌+◌, ◌-◌, ◌*◌, Bool, true, false, cond, ◌||◌, List, [], ◌∷◌, Some, None, Option, ◌==◌}
+use Rattle.std.specs.Prelude.{ℕ, ◌+◌, ◌-◌, ◌*◌, Bool, cond, ◌||◌, List, [], ◌∷◌, Some, None, Option, ◌==◌}
 use Rattle.model.specs.Shapes.{between, digit}
 use Rattle.script.specs.declared.escapes.After.{After}
 use Rattle.script.specs.declared.escapes.After.TheVariants.{Plain, Backslash, Hex, Digit}

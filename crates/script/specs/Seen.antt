@@ -1,7 +1,6 @@
 -- The code's lines as the definitions have them.
 use Rattle.std.specs.Prelude.{ℕ, List, Some, None, Option}
 use Rattle.std.specs.Borrow.{Bor}
-use Rattle.script.specs.declared.words.Words.{Words}
 use Rattle.script.specs.declared.line.Run.{Run as OwnRun}
 use Rattle.script.specs.declared.line.Call.{Call as OwnCall}
 use Rattle.script.specs.declared.line.Call.TheVariants.{Machine, Loop, Plan, Expand, Run as RunCall}

@@ -1,5 +1,5 @@
 -- What a buffer holds of a text.
-use Rattle.std.specs.Prelude.{ℕ, Bool, true, false, cond, List, [], ◌∷◌, ◌++◌, length, drop, Some, None, Option, nat_le}
+use Rattle.std.specs.Prelude.{ℕ, cond, List, ◌++◌, length, drop, Some, None, Option, nat_le}
 use Rattle.script.specs.declared.escapes.After.{After}
 use Rattle.script.specs.declared.escapes.After.TheVariants.{Plain, Backslash, Hex, Digit}
 

@@ -1,4 +1,4 @@
-use Rattle.std.proofs.Common.{◌^◌, ◌<◌, ◌≤◌, length, get_or, refl, arith}
+use Rattle.std.proofs.Common.{◌^◌, ◌<◌, ◌≤◌, get_or, refl, arith}
 use native.Mathlib.Nat.{pow-le-pow_right}
 use Rattle.model.specs.Shapes.{digit}
 use Rattle.model.proofs.Scans.{every_here, digit_bounds, value_more, value_end, pow_more}

@@ -1,6 +1,6 @@
-use Rattle.std.proofs.Common.{◌≡◌, sym, refl, ap, ◌∙◌, arith}
+use Rattle.std.proofs.Common.{sym, ap, ◌∙◌, arith}
 use Rattle.script.specs.Spelling.{length_in}
-use Rattle.script.specs.Escapes.{spelled, unescaped}
+use Rattle.script.specs.Escapes.{unescaped}
 use Rattle.script.proofs.Spells.{plus, plus_zero, turned, written, at_wrong, at_end, ended_is}
 use Rattle.script.proofs.escapes.text_len.Goals as goal
 use Rattle.script.proofs.escapes.text_len.Goals.{in-Turn, in-Put}

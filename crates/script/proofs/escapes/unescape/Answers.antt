@@ -1,4 +1,4 @@
-use Rattle.std.proofs.Common.{◌≡◌, ℕ, ◌+◌, ◌≤◌, length, take, drop, Some, None, sym, refl, ap, ◌∙◌, arith, length-set}
+use Rattle.std.proofs.Common.{◌≡◌, ℕ, ◌+◌, ◌≤◌, length, take, drop, Some, None, sym, refl, ap, ◌∙◌, arith}
 use Rattle.script.specs.declared.escapes.After.TheVariants.{Plain}
 use Rattle.script.specs.Spelling.{length_in}
 use Rattle.script.specs.Escapes.{spelled, unescaped}

@@ -1,4 +1,4 @@
-use Rattle.std.proofs.Common.{◌≡◌, sym, refl, ap, ◌∙◌}
+use Rattle.std.proofs.Common.{sym, ap, ◌∙◌}
 use Rattle.script.specs.Cells.{count_of}
 use Rattle.script.proofs.Lines.{expand_yes, expand_other}
 use Rattle.script.proofs.reading.expand_of.Goals as goal

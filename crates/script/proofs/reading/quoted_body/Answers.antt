@@ -1,4 +1,4 @@
-use Rattle.std.proofs.Common.{◌≡◌, take, sym, ap, ◌∙◌}
+use Rattle.std.proofs.Common.{take, sym, ap, ◌∙◌}
 use Rattle.script.specs.Script.{is_quoted, body_of}
 use Rattle.script.proofs.Lines.{quoted_yes, quoted_other, quoted_not}
 use Rattle.script.proofs.reading.quoted_body.Goals as goal

@@ -1,5 +1,5 @@
-use Rattle.std.proofs.Common.{◌≡◌, sym, refl, ap, ◌∙◌}
-use Rattle.script.specs.Script.{words_of, rest, cells_fit}
+use Rattle.std.proofs.Common.{sym, refl, ap, ◌∙◌}
+use Rattle.script.specs.Script.{words_of, rest}
 use Rattle.script.specs.Seen.{run_in}
 use Rattle.script.proofs.Lines.{run_other, no_memory, no_values, no_waiting, no_cells, all_there}
 use Rattle.script.proofs.reading.run_of.Goals as goal

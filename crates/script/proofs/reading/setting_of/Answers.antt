@@ -1,4 +1,4 @@
-use Rattle.std.proofs.Common.{◌≡◌, sym, ◌∙◌}
+use Rattle.std.proofs.Common.{sym, ◌∙◌}
 use Rattle.script.proofs.Lines.{is_rotating, is_expanded, is_words, is_floats, is_wrong}
 use Rattle.script.proofs.reading.setting_of.Goals as goal
 
