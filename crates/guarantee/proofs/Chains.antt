@@ -1,13 +1,12 @@
 -- Lists of calls, one step more, and the plain packer over a list. Assumes nothing.
-use Rattle.std.proofs.Common.{◌≡◌, ℕ, zero, suc, ◌<◌, List, [], ◌∷◌, length, get_or, take, drop, set, sym, refl, ap, ◌∙◌, subst, arith}
-use Rattle.model.specs.Schedule.{Schedule}
+use Rattle.std.proofs.Common.{◌≡◌, ℕ, zero, suc, ◌<◌, List, [], ◌∷◌, length, get_or, take, drop, set, refl, ap, ◌∙◌, subst, arith}
 use Rattle.model.specs.Lives.{Table}
 use Rattle.model.specs.Schemes.{Meaning}
 use Rattle.model.specs.Domains.{Domain}
-use Rattle.guarantee.specs.Calls.{Call, Standing, State, Answer}
+use Rattle.guarantee.specs.Calls.{State}
 use Rattle.guarantee.specs.PlainPacker.{PlainCall}
-use Rattle.guarantee.specs.Guarantees.{plainly, reply, Guaranteed}
-use Rattle.guarantee.specs.Lists.{Chain, Entry, asked, answered, Settled, Made, Played, PlainMade, PlainPlayed}
+use Rattle.guarantee.specs.Guarantees.{plainly, reply}
+use Rattle.guarantee.specs.Lists.{Chain, Entry, asked, answered, Played, PlainPlayed}
 
 -- one place more, in place: what is left of the list is as it was
 module _ {S A : Type 0} (R : S → A → A → S → Type 0) (m t : S) (b d : A) where

@@ -1,13 +1,12 @@
 -- A loop of an accepted text on the machine of one. Assumes nothing.
-use Rattle.std.proofs.Common.{◌≡◌, ℕ, ◌<◌, ◌≤◌, true, List, [], ◌∷◌, map, length, get_or, pos, sym, refl, ap, ◌∙◌, subst, arith}
-use Rattle.std.specs.List.{AllByRecursion as All}
+use Rattle.std.proofs.Common.{◌≡◌, ℕ, ◌<◌, ◌≤◌, true, length, pos, sym, refl, ap, ◌∙◌, subst}
 use Rattle.std.proofs.lemmas.List.{get_or-map, length-map}
 use Rattle.std.proofs.ByRecursion.{All-get_or}
 use Rattle.model.specs.declared.Code.{Code}
 use Rattle.model.specs.declared.Code.TheVariants.{Load, Store, Add, Sub, Mul, Move}
 use Rattle.model.specs.declared.Timing.{Timing}
 use Rattle.model.specs.Limits.{timing, TimingFits}
-use Rattle.model.specs.Loop.{Loop, move, literal, op, WellFormed}
+use Rattle.model.specs.Loop.{Loop, move, literal, op}
 use Rattle.model.specs.MachineText.{Machine, code_number}
 use Rattle.model.specs.Soundness.{sound_machine, sound_loop, code_of, timing_of, timings_of, units_of, hardware}
 use Rattle.model.specs.SearchLaws.{OnMachine}

@@ -1,16 +1,14 @@
 -- A plan that the scheme accepted holds. Assumes nothing.
-use Rattle.std.proofs.Common.{◌≡◌, ℕ, ◌<◌, ◌≤◌, true, List, length, sym, refl, ap, ◌∙◌, subst, arith}
+use Rattle.std.proofs.Common.{◌≡◌, ℕ, true, length, sym, subst}
 use Rattle.model.specs.Loop.{Loop, Hardware}
 use Rattle.model.specs.MachineText.{Machine}
 use Rattle.model.specs.Soundness.{sound_machine, sound_loop, hardware}
 use Rattle.model.specs.Edges.{edges}
 use Rattle.model.specs.Lives.{Table}
-use Rattle.model.specs.Schedule.{Schedule, stages}
+use Rattle.model.specs.Schedule.{stages}
 use Rattle.model.specs.ScheduleLives.{lives_table}
 use Rattle.model.specs.Minimum.{Evidence, by_class, by_circuit, IsEvidence}
 use Rattle.model.specs.Schemes.{Meaning, Lawful, Apart, Accepted}
-use Rattle.model.specs.SchemeLaws.{Keeps}
-use Rattle.model.specs.SearchLaws.{OnMachine}
 use Rattle.model.specs.Plan as plans
 use Rattle.graph_laws.proofs.Lower.{no_smaller_interval, class_excludes}
 use Rattle.graph_laws.proofs.Around.{circuit_excludes}

@@ -1,5 +1,5 @@
 -- A run of the listing of a plan that holds is sound. Assumes nothing.
-use Rattle.std.proofs.Common.{◌≡◌, ℕ, zero, suc, ◌<◌, ◌≤◌, true, false, List, length, sym, refl, ap, ◌∙◌, subst, inl, inr, arith, length-append}
+use Rattle.std.proofs.Common.{◌≡◌, ℕ, zero, suc, true, length, sym, refl, ◌∙◌, subst, inl, inr, arith, length-append}
 use Rattle.std.proofs.lemmas.Bool.{cases_Bool}
 use Rattle.model.specs.Loop.{Loop, op, makes, Hardware}
 use Rattle.model.specs.MachineText.{Machine}
@@ -13,7 +13,7 @@ use Rattle.model.specs.Pipelining.{InMemory, Means, Pipelined}
 use Rattle.listing_laws.proofs.Law.{listing_means}
 use Rattle.pipelining.proofs.Theorem.{pipelined}
 use Rattle.guarantee.specs.Calls.{Planned, Buffers}
-use Rattle.guarantee.specs.Guarantees.{PlanHolds, listing_of, code_timings, listed_form, values_in, waiting_in}
+use Rattle.guarantee.specs.Guarantees.{PlanHolds, code_timings, listed_form, values_in, waiting_in}
 use Rattle.guarantee.proofs.OnTexts.{on_machine, by_code}
 
 lives_count : (ops : Loop) (hw : Hardware) (w : Schedule) (n : ℕ) → length (lives_of ops hw w n) ≡ variable_number ops n

@@ -1,5 +1,5 @@
 -- Each call keeps the guarantee, from what its layer answers. Assumes nothing.
-use Rattle.std.proofs.Common.{◌≡◌, ℕ, ◌<◌, ◌≤◌, true, ◌⊎◌, List, [], length, Some, None, Ok, Err, Option, Result, sym, refl, ap, ◌∙◌, subst, ⊎_elim, arith}
+use Rattle.std.proofs.Common.{◌≡◌, ℕ, ◌<◌, ◌≤◌, true, ◌⊎◌, List, [], length, Some, None, Ok, Err, Option, sym, refl, ap, ◌∙◌, subst, ⊎_elim, arith}
 use Rattle.model.specs.Faults.{Fault, text_fault, on_err}
 use Rattle.model.specs.MachineText.{Machine, read_machine}
 use Rattle.model.specs.LoopText.{read_loop}
@@ -17,9 +17,9 @@ use Rattle.model.specs.Listing.{Slot, slots_of}
 use Rattle.model.specs.Plan as plans
 use Rattle.model.specs.Plan.{IsPlan}
 use Rattle.schedule_laws.specs.Alike.{IsPlanned}
-use Rattle.guarantee.specs.Calls.{Buffers, Call, machine, loop, plan, expand, run, Standing, nothing, with_machine, with_loop, with_plan, with_listing, machine_in, Body, loop_in, PlannedBody, plan_in, ListedBody, listing_in, Planned, State, Answer, accepted, planned, expanded, ran, refused, not_standing, no_schedule, many_trips, short_files, outside_memory}
+use Rattle.guarantee.specs.Calls.{Buffers, Call, machine, loop, plan, expand, run, Standing, nothing, with_machine, with_loop, with_plan, with_listing, machine_in, Body, loop_in, PlannedBody, plan_in, ListedBody, listing_in, Planned, State, accepted, planned, expanded, ran, refused, not_standing, no_schedule, many_trips, short_files, outside_memory}
 use Rattle.guarantee.specs.PlainPacker.{Reply, done, leaves, refuses, Refusal, Needs, Read, Planning, Expanding, Running, PlainCall}
-use Rattle.guarantee.specs.Guarantees.{plainly, PlanHolds, listing_of, listed_form, StandsSound, values_in, waiting_in, machine_left, SoundRun, Present, Sound, Guaranteed}
+use Rattle.guarantee.specs.Guarantees.{plainly, PlanHolds, listing_of, StandsSound, values_in, waiting_in, machine_left, SoundRun, Present, Sound, Guaranteed}
 use Rattle.guarantee.proofs.Plans.{plan_holds}
 use Rattle.guarantee.proofs.Runs.{runs_pipelined}
 

@@ -1,5 +1,5 @@
 -- The five calls of a packer: what each is handed, what stands, and what is answered.
-use Rattle.std.specs.Prelude.{ℕ, List, [], Some, None, Option}
+use Rattle.std.specs.Prelude.{ℕ, List, Some, None, Option}
 use Rattle.model.specs.declared.Parts.{Parts}
 use Rattle.model.specs.declared.Layer.TheVariants.{Plan as InPlan, Code as InCode}
 use Rattle.model.specs.Faults.{Fault}

@@ -23,7 +23,7 @@ use Rattle.model.specs.Pipelining.{before, Pipelined}
 use Rattle.model.specs.Listing.{Slot, Listing, listing, slots_of, code_of_listing}
 use Rattle.model.specs.SearchLaws.{SoundSchedule}
 use Rattle.schedule_laws.specs.Alike.{IsPlanned}
-use Rattle.guarantee.specs.Calls.{Buffers, Call, machine, loop, plan, expand, run, Standing, nothing, with_machine, with_loop, with_plan, with_listing, PlannedBody, plan_in, ListedBody, listing_in, Planned, State, Answer, accepted, planned, expanded, ran, refused}
+use Rattle.guarantee.specs.Calls.{Buffers, Call, machine, loop, plan, expand, run, Standing, nothing, with_machine, with_loop, with_plan, with_listing, PlannedBody, plan_in, listing_in, Planned, State, Answer, accepted, planned, expanded, ran, refused}
 use Rattle.guarantee.specs.PlainPacker.{Reply, done, leaves, refuses, PlainCall}
 
 -- What the plain packer has of what stands, and of an answer: c is the call with the buffers that it leaves.

@@ -6,7 +6,7 @@ use Rattle.model.specs.Schemes.{Meaning}
 use Rattle.model.specs.Domains.{Domain}
 use Rattle.guarantee.specs.Calls.{Call, Standing, State, Answer}
 use Rattle.guarantee.specs.PlainPacker.{PlainCall}
-use Rattle.guarantee.specs.Guarantees.{plainly, reply, Guaranteed}
+use Rattle.guarantee.specs.Guarantees.{reply, Guaranteed}
 
 -- One step after the other, through two lists of one length.
 abbrev pub Chain : {S A B : Type 0} → (S → A → B → S → Type 0) → S → List A → List B → S → Type 0

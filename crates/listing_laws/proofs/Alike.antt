@@ -1,5 +1,5 @@
 -- What the rows of a pass say, passes that say the same, and that they say what issues.
-use Rattle.std.proofs.Common.{◌≡◌, ℕ, zero, suc, ◌+◌, ◌-◌, ◌/◌, ◌%◌, ◌<◌, ◌≤◌, Bool, true, cond, leb, List, [], ◌∷◌, ◌++◌, map, length, Option, refl, ap, ◌∙◌, ap₂, inl, inr, arith}
+use Rattle.std.proofs.Common.{◌≡◌, ℕ, zero, suc, ◌+◌, ◌-◌, ◌/◌, ◌%◌, ◌<◌, ◌≤◌, true, cond, leb, List, [], ◌∷◌, ◌++◌, map, length, Option, refl, ap, ◌∙◌, ap₂, inl, inr, arith}
 use Rattle.std.proofs.lemmas.Bool.{cases_eq, cases_Bool, leb-true, le-leb, lt-ltb}
 use Rattle.model.specs.declared.Operator.TheVariants.{Plus, Minus, Times}
 use Rattle.model.specs.declared.Part.{Part}
@@ -10,7 +10,7 @@ use Rattle.model.specs.Schedule.{Schedule, stage}
 use Rattle.model.specs.Soundness.{code_of}
 use Rattle.model.specs.Schemes.{Meaning, Lawful}
 use Rattle.model.specs.Issues.{Source, register, Slot, issues_in, issues, iteration_in, iteration_of, source, variable_number, home_of, slot_of, slots, issues_at}
-use Rattle.model.specs.Codes.{CodeSource, CodeSlot, timing_by, source_in, target_in, slot_in}
+use Rattle.model.specs.Codes.{CodeSource, CodeSlot, source_in, target_in, slot_in}
 use Rattle.model.specs.Listing.{operation_by, left_of, right_of, stride_written, offset_written, said, distance, operand_in, operation_in, result_in, slot_in_pass, row_of}
 use Rattle.model.specs.ListingLaws.{ByCode}
 use Rattle.pipelining.proofs.Effects.{each_operand, both_operands}

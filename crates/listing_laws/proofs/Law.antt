@@ -1,21 +1,20 @@
 -- The listing says what issues.
-use Rattle.std.proofs.Common.{◌≡◌, ℕ, zero, suc, ◌+◌, ◌-◌, ◌*◌, ◌/◌, ◌%◌, ◌<◌, ◌≤◌, true, cond, ◌&&◌, ltb, ◌⊎◌, List, [], ◌∷◌, ◌++◌, map, length, get_or, sym, refl, ap, ◌∙◌, ap₂, inl, inr, mod-lt, div-lt_iff_lt-mul, mul-zero, zero-mul, arith}
+use Rattle.std.proofs.Common.{◌≡◌, ℕ, ◌+◌, ◌-◌, ◌*◌, ◌/◌, ◌%◌, ◌<◌, ◌≤◌, List, [], map, length, get_or, ap, ◌∙◌, inl, inr, mod-lt, div-lt_iff_lt-mul, zero-mul, arith}
 use native.Mathlib.Nat.{mod-le, add-mod-mod}
-use Rattle.std.proofs.lemmas.Bool.{cases_lt, cases_eq, and_from, lt-ltb, le-ltb}
+use Rattle.std.proofs.lemmas.Bool.{cases_lt, and_from, lt-ltb, le-ltb}
 use Rattle.model.specs.declared.Part.{Part}
 use Rattle.model.specs.declared.Part.TheVariants.{Front, Kernel, Rest}
 use Rattle.model.specs.declared.Parts.{Parts}
-use Rattle.model.specs.Loop.{Loop, Hardware, WellFormed}
-use Rattle.model.specs.Schedule.{Schedule, stage, stages, FewStages}
-use Rattle.model.specs.Issues.{passes}
-use Rattle.model.specs.Codes.{form_of, slot_in}
-use Rattle.model.specs.Listing.{Slot, said, parts_of, head_of, passes_in, passes_run, first_pass, written_pass, row_of, rows_of_pass, rows_of_part, rows_of, Listing, listing, written_row, code_of_listing}
+use Rattle.model.specs.Loop.{Loop}
+use Rattle.model.specs.Schedule.{Schedule, stages}
+use Rattle.model.specs.Codes.{slot_in}
+use Rattle.model.specs.Listing.{Slot, said, parts_of, head_of, passes_run, first_pass, written_pass, row_of, rows_of_pass, rows_of_part, rows_of, listing, code_of_listing}
 use Rattle.model.specs.ListingLaws.{ListingMeans}
 use Rattle.pipelining.proofs.Length.{stage_below}
 use Rattle.listing_laws.proofs.Each.{at_ones, length_ones}
 use Rattle.listing_laws.proofs.Alike.{Reaches, code_row, row_said, row_alike, row_right}
 use Rattle.listing_laws.proofs.Reach.{head_reaches}
-use Rattle.listing_laws.proofs.Rows.{at_first, at_second, at_third, Kind, short, long, kind_of, Split, split_of, passes_whole}
+use Rattle.listing_laws.proofs.Rows.{at_first, at_second, at_third, short, long, kind_of, split_of, passes_whole}
 
 module _ (ops : Loop) (w : Schedule) (name : ℕ → ℕ → ℕ → ℕ) (turns trips : ℕ) where
   abbrev pub ps : Parts

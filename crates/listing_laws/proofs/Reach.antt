@@ -1,8 +1,8 @@
 -- How far back the head reaches.
-use Rattle.std.proofs.Common.{◌≡◌, ℕ, zero, suc, ◌+◌, ◌-◌, ◌*◌, ◌<◌, ◌≤◌, length, refl, inl, inr, arith}
+use Rattle.std.proofs.Common.{ℕ, zero, suc, ◌+◌, ◌<◌, ◌≤◌, length, inl, inr, arith}
 use Rattle.std.proofs.lemmas.Bool.{cases_eq}
 use Rattle.model.specs.Loop.{Loop, Operand, literal, variable, Operation, load, store, binary, move, op, EachOperand, Named, Hardware, WellFormed}
-use Rattle.model.specs.Schedule.{Schedule, stage, stages, FewStages}
+use Rattle.model.specs.Schedule.{Schedule, stage, FewStages}
 use Rattle.model.specs.ScheduleLives.{greatest}
 use Rattle.model.specs.Listing.{distance, farthest, head_of}
 use Rattle.pipelining.proofs.Effects.{each_operand}

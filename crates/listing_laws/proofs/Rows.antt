@@ -1,13 +1,12 @@
 -- Where the rows of the parts stand among all rows, and what the parts are.
-use Rattle.std.proofs.Common.{◌≡◌, ℕ, zero, suc, ◌+◌, ◌-◌, ◌*◌, ◌/◌, ◌%◌, ◌<◌, ◌≤◌, cond, ltb, leb, ◌⊎◌, List, [], ◌∷◌, ◌++◌, length, get_or, sym, refl, ap, ◌∙◌, ap₂, inl, inr, mul-le-mul_right, mod-lt, add-mul, mul-zero, div-add-mod', zero-mul, div-mul-le_self, arith}
+use Rattle.std.proofs.Common.{◌≡◌, ℕ, ◌+◌, ◌-◌, ◌*◌, ◌/◌, ◌%◌, ◌<◌, ◌≤◌, cond, ltb, leb, List, ◌++◌, length, get_or, refl, ap, ◌∙◌, inl, inr, mul-le-mul_right, mod-lt, add-mul, mul-zero, div-add-mod', zero-mul, arith}
 use Rattle.std.proofs.lemmas.List.{get_or_append_left, get_or-append_right, length-append}
-use Rattle.std.proofs.lemmas.Bool.{cases_Bool, cases_eq, cases_lt, leb-true, leb-false, le-leb, lt-leb, lt-ltb, le-ltb, eq-eqb, ne_eqb}
-use Rattle.model.specs.declared.Parts.{Parts}
+use Rattle.std.proofs.lemmas.Bool.{cases_Bool, cases_lt, leb-true, leb-false, lt-ltb, le-ltb, ne_eqb}
 use Rattle.model.specs.Loop.{Loop}
 use Rattle.model.specs.Edges.{each}
 use Rattle.model.specs.Schedule.{Schedule, stages}
 use Rattle.model.specs.Issues.{passes}
-use Rattle.model.specs.Listing.{head_of, parts_of, all_front, with_kernel, passes_run, passes_written}
+use Rattle.model.specs.Listing.{head_of, parts_of, all_front, with_kernel, passes_run}
 use Rattle.listing_laws.proofs.Each.{length_table, at_table}
 
 -- Three tables one after another.

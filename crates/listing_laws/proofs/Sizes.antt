@@ -1,20 +1,20 @@
 -- How long a listing is.
-use Rattle.std.proofs.Common.{◌≡◌, ℕ, zero, suc, ◌+◌, ◌-◌, ◌*◌, ◌/◌, ◌%◌, ◌<◌, ◌≤◌, Bool, true, false, cond, ◌&&◌, eqb, ltb, leb, ◌⊎◌, List, [], ◌∷◌, ◌++◌, length, sym, refl, ap, ◌∙◌, ap₂, inl, inr, mul-le-mul_right, add-mul, mul-le-mul_left, arith}
+use Rattle.std.proofs.Common.{◌≡◌, ℕ, zero, suc, ◌+◌, ◌*◌, ◌<◌, ◌≤◌, Bool, true, false, cond, ◌&&◌, eqb, List, [], ◌∷◌, ◌++◌, length, refl, ap, ◌∙◌, ap₂, inl, inr, mul-le-mul_right, add-mul, mul-le-mul_left, arith}
 use Rattle.std.specs.List.{flat_map}
 use Rattle.std.proofs.lemmas.List.{append-nil, length-append}
-use Rattle.std.proofs.lemmas.Bool.{cases_eq, cases_Bool, eq-eqb, ne_eqb}
+use Rattle.std.proofs.lemmas.Bool.{cases_eq, eq-eqb, ne_eqb}
 use Rattle.model.specs.declared.Part.{Part}
 use Rattle.model.specs.declared.Part.TheVariants.{Front, Kernel, Rest}
-use Rattle.model.specs.Loop.{Loop, Hardware, WellFormed, total}
+use Rattle.model.specs.Loop.{Loop, total}
 use Rattle.model.specs.Edges.{each}
-use Rattle.model.specs.Schedule.{Schedule, row, stages, FewStages}
-use Rattle.model.specs.Issues.{passes, issues_in}
-use Rattle.model.specs.Listing.{Slot, head_of, parts_of, passes_in, passes_written, slot_in_pass, row_of, rows_of_pass, rows_of_part, rows_of, Listing, listing, slots_of}
-use Rattle.model.specs.ListingLaws.{Sizes, ListingSizes}
+use Rattle.model.specs.Schedule.{Schedule, row, stages}
+use Rattle.model.specs.Issues.{issues_in}
+use Rattle.model.specs.Listing.{Slot, head_of, parts_of, passes_in, passes_written, slot_in_pass, row_of, rows_of_pass, rows_of_part, rows_of}
+use Rattle.model.specs.ListingLaws.{ListingSizes}
 use Rattle.pipelining.proofs.Length.{stage_below, stages_by_times}
 use Rattle.listing_laws.proofs.Each.{joined_append, joined_each, each_same, each_short, length_each}
 use Rattle.listing_laws.proofs.Reach.{head_far}
-use Rattle.listing_laws.proofs.Rows.{length_three, Kind, short, long, kind_of, split_of, passes_whole}
+use Rattle.listing_laws.proofs.Rows.{length_three, short, long, kind_of, split_of, passes_whole}
 use Rattle.listing_laws.proofs.Law.{ps, pass_in, pass_long}
 
 total_add : (f g : ℕ → ℕ) (n : ℕ) → total (λ j. f j + g j) n ≡ total f n + total g n

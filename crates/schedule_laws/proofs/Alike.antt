@@ -1,9 +1,9 @@
 -- What is the same of schedules that are alike.
-use Rattle.std.proofs.Common.{◌≡◌, ℕ, zero, suc, ◌+◌, ◌-◌, ◌*◌, ◌/◌, ◌<◌, ◌≤◌, max, cond, ◌==◌, List, [], ◌∷◌, ◌++◌, length, sym, refl, ap, ◌∙◌, subst, ap₂, arith}
+use Rattle.std.proofs.Common.{◌≡◌, ℕ, zero, suc, ◌+◌, ◌-◌, ◌*◌, ◌/◌, ◌<◌, ◌≤◌, max, cond, ◌==◌, List, [], ◌∷◌, ◌++◌, length, sym, refl, subst, ap₂, arith}
 use Rattle.std.specs.List.{AllByRecursion as All}
 use Rattle.model.specs.declared.Edge.{Edge}
 use Rattle.model.specs.declared.Life.{Life}
-use Rattle.model.specs.Loop.{Loop, Operand, literal, variable, Operation, load, store, binary, move, op, makes, Hardware, total, WellFormed}
+use Rattle.model.specs.Loop.{Loop, Operand, literal, variable, Operation, load, store, binary, move, op, makes, Hardware, WellFormed}
 use Rattle.model.specs.Edges.{EdgeMet, edges}
 use Rattle.model.specs.Limits.{EdgeFits}
 use Rattle.model.specs.Schedule.{Schedule, stage, stages, uses, row_uses, IsSchedule}

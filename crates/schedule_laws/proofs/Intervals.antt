@@ -1,18 +1,18 @@
 -- The plan, interval by interval.
-use Rattle.std.proofs.Common.{◌≡◌, ℕ, zero, suc, ◌+◌, ◌-◌, ◌<◌, ◌≤◌, Bool, true, false, List, length, sym, refl, ap, ◌∙◌, add-one, arith}
+use Rattle.std.proofs.Common.{◌≡◌, ℕ, suc, ◌+◌, ◌-◌, ◌<◌, ◌≤◌, true, false, List, length, refl, ◌∙◌, add-one, arith}
 use mathlib.Core.Path.{fun_ext}
 use Rattle.std.specs.List.{AllByRecursion as All}
 use Rattle.std.proofs.lemmas.Bool.{le-leb, lt-leb}
 use Rattle.model.specs.Loop.{Loop, Hardware, total}
 use Rattle.model.specs.declared.Edge.{Edge}
-use Rattle.model.specs.Minimum.{IsMinimum, IsHeight}
+use Rattle.model.specs.Minimum.{IsHeight}
 use Rattle.model.specs.Limits.{EdgeFits}
 use Rattle.model.specs.Relaxation.{rounds}
-use Rattle.model.specs.Schedule.{Schedule, stages, sequential}
+use Rattle.model.specs.Schedule.{stages, sequential}
 use Rattle.model.specs.Lives.{Table}
 use Rattle.model.specs.ScheduleLives.{lives_table}
 use Rattle.model.specs.Search.{Outcome, found, failed, search}
-use Rattle.model.specs.Plan.{Plan, planned, refused, at_interval, steps_of, takes, succeeds, found_at, in_sequence, plan_from}
+use Rattle.model.specs.Plan.{Plan, planned, refused, at_interval, steps_of, succeeds, found_at, in_sequence, plan_from}
 use Rattle.graph_laws.proofs.Steps.{all_within}
 use Rattle.graph_laws.proofs.Relaxed.{fixed_is_height}
 use Rattle.search_laws.specs.Bounded.{Roomy, Sound}

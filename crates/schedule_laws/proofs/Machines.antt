@@ -1,10 +1,10 @@
 -- A loop on its machine, from accepted texts.
-use Rattle.std.proofs.Common.{◌≡◌, ℕ, ◌<◌, ◌≤◌, true, length, sym, ap, ◌∙◌, arith}
+use Rattle.std.proofs.Common.{◌≡◌, ◌≤◌, length, arith}
 use Rattle.std.proofs.ByRecursion.{All-get_or}
 use Rattle.std.proofs.lemmas.List.{length-map}
 use Rattle.model.specs.Loop.{Loop}
 use Rattle.model.specs.MachineText.{Machine}
-use Rattle.model.specs.Soundness.{sound_machine, sound_loop, code_of, timing_of, timings_of, units_of, hardware}
+use Rattle.model.specs.Soundness.{code_of, timing_of, timings_of, units_of}
 use Rattle.model.specs.Limits.{MachineFits, TimingFits}
 use Rattle.text_laws.proofs.Formed.{well_formed, machine_fits}
 use Rattle.schedule_laws.specs.Laws.{OnMachines}

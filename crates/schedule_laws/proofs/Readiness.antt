@@ -1,17 +1,16 @@
 -- What follows where a plan can be made.
-use Rattle.std.proofs.Common.{◌≡◌, ℕ, ◌+◌, ◌-◌, ◌<◌, ◌≤◌, cond, ltb, List, [], length, get_or, sym, refl, ap, ◌∙◌, subst, ap₂, arith}
-use mathlib.Core.Path.{fun_ext}
+use Rattle.std.proofs.Common.{◌≡◌, ℕ, ◌<◌, ◌≤◌, cond, ltb, List, [], length, refl, ap, ◌∙◌, subst, ap₂, arith}
 use Rattle.std.proofs.ByRecursion.{All-get_or}
 use Rattle.std.proofs.lemmas.Bool.{lt-ltb}
 use Rattle.model.specs.declared.Edge.{Edge}
 use Rattle.model.specs.declared.Timing.{Timing}
 use Rattle.model.specs.Loop.{Loop, Hardware, total}
-use Rattle.model.specs.Limits.{timing, hardware, GraphFits, TimingFits}
+use Rattle.model.specs.Limits.{hardware, TimingFits}
 use Rattle.model.specs.Minimum.{NoneAbove, IsHeight}
-use Rattle.model.specs.Schedule.{Schedule, stages, FewStages, sequential}
+use Rattle.model.specs.Schedule.{stages, sequential}
 use Rattle.model.specs.Lives.{Limits}
 use Rattle.model.specs.ScheduleLives.{lives_table}
-use Rattle.model.specs.Search.{Outcome, search}
+use Rattle.model.specs.Search.{search}
 use Rattle.model.specs.Plan.{at_interval, steps_of}
 use Rattle.pipelining.proofs.Length.{stages_by_times}
 use Rattle.pipelining.proofs.Theorem.{lives_last}

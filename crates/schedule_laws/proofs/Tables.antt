@@ -1,14 +1,14 @@
 -- The table of lives, operation by operation.
-use Rattle.std.proofs.Common.{◌≡◌, ℕ, zero, suc, ◌+◌, ◌-◌, ◌*◌, ◌<◌, ◌≤◌, max, Bool, true, false, cond, List, [], ◌∷◌, ◌++◌, length, get_or, sym, refl, ap, ◌∙◌, subst, ap₂, inl, inr, append_assoc, add-one, arith, length-append}
+use Rattle.std.proofs.Common.{◌≡◌, ℕ, zero, suc, ◌+◌, ◌-◌, ◌<◌, max, true, false, cond, List, [], ◌∷◌, ◌++◌, length, get_or, refl, ap, ◌∙◌, subst, ap₂, inl, inr, append_assoc, add-one, arith, length-append}
 use Rattle.std.proofs.lemmas.List.{get_or_at, append-nil}
-use Rattle.std.proofs.lemmas.Bool.{cases_eq, cases_Bool}
+use Rattle.std.proofs.lemmas.Bool.{cases_eq}
 use Rattle.model.specs.Loop.{Loop, op, makes, Hardware}
 use Rattle.model.specs.Schedule.{Schedule}
 use Rattle.model.specs.declared.Life.{Life}
 use Rattle.model.specs.declared.Timing.{Timing}
 use Rattle.model.specs.Limits.{hardware}
 use Rattle.model.specs.Lives.{Table, no_life, LifeWithin, Limits}
-use Rattle.model.specs.ScheduleLives.{read_at, greatest, last_read, life_end, life_of, lives_of, lives_table}
+use Rattle.model.specs.ScheduleLives.{read_at, greatest, last_read, life_of, lives_of, lives_table}
 
 pub read_more : (ops : Loop) (w : Schedule) (v q : ℕ) → last_read ops w v (q + 1) ≡ max (last_read ops w v q) (greatest (read_at w v q) (op ops q))
 unfolding last_read

@@ -1,6 +1,5 @@
 -- Sums of latencies, and stages, operation by operation.
-use Rattle.std.proofs.Common.{◌≡◌, ℕ, zero, suc, ◌+◌, ◌-◌, ◌/◌, ◌<◌, ◌≤◌, max, Bool, true, false, cond, sym, refl, ap, ◌∙◌, add-one, arith}
-use mathlib.Core.Path.{fun_ext}
+use Rattle.std.proofs.Common.{◌≡◌, ℕ, ◌+◌, max, refl, add-one}
 use Rattle.model.specs.Loop.{total}
 use Rattle.model.specs.Schedule.{Schedule, stage, stages}
 

@@ -1,10 +1,10 @@
 -- Times stay bounded.
-use Rattle.std.proofs.Common.{◌≡◌, ℕ, zero, suc, ◌+◌, ◌-◌, ◌*◌, ◌<◌, ◌≤◌, max, Bool, true, false, cond, not, ◌&&◌, eqb, ltb, ◌⊎◌, List, [], ◌∷◌, is_some, Some, None, Option, unwrap_or, sym, refl, ap, ◌∙◌, inl, inr, arith}
+use Rattle.std.proofs.Common.{◌≡◌, ℕ, zero, suc, ◌+◌, ◌<◌, ◌≤◌, Bool, true, false, cond, not, ◌&&◌, eqb, ltb, List, [], ◌∷◌, is_some, Some, None, Option, unwrap_or, inl, inr, arith}
 use Rattle.std.specs.List.{AllByRecursion as All}
 use Rattle.std.proofs.lemmas.Bool.{cases_lt, cases_eq, cases_Bool, lt-ltb, le-ltb, both_ways}
 use Rattle.model.specs.Loop.{Hardware}
 use Rattle.model.specs.declared.Edge.{Edge}
-use Rattle.model.specs.Search.{first, Times, State, put, without, better, pick, after, early, fallback, fits, slot}
+use Rattle.model.specs.Search.{first, Times, State, better, pick, after, early, fallback, fits, slot}
 use Rattle.model.specs.SearchLaws.{Picked}
 use Rattle.search_laws.specs.Bounded.{Under, Short}
 

@@ -1,9 +1,9 @@
 -- What the counts answer is what the definition asks.
-use Rattle.std.proofs.Common.{◌≡◌, ℕ, zero, suc, ◌+◌, ◌-◌, ◌*◌, ◌%◌, ◌<◌, ◌≤◌, Bool, true, false, cond, not, ◌&&◌, ◌||◌, eqb, ltb, Some, None, Option, sym, refl, ap, ◌∙◌, subst, inl, inr, mod-lt, add-one, arith}
+use Rattle.std.proofs.Common.{◌≡◌, ℕ, zero, suc, ◌+◌, ◌%◌, ◌<◌, ◌≤◌, Bool, true, false, cond, not, ◌&&◌, eqb, ltb, Some, None, sym, refl, ap, ◌∙◌, inl, inr, mod-lt, add-one, arith}
 use Rattle.std.proofs.lemmas.Bool.{cases_eq, cases_lt, cases_Bool, eq-eqb, ne_eqb, lt-ltb, le-ltb, ltb-true, and_parts, and_from, and_left, and_right, or_left, or_right, or_from, or_cases, both_ways}
 use Rattle.model.specs.Loop.{Hardware}
 use Rattle.model.specs.Schedule.{uses}
-use Rattle.model.specs.Search.{some_below, Times, put, without, uses_of, in_row, overfull, fits, crowded}
+use Rattle.model.specs.Search.{some_below, Times, put, without, uses_of, overfull, fits, crowded}
 use Rattle.graph_laws.proofs.Total.{total_longer}
 use Rattle.search_laws.specs.Bounded.{Roomy}
 use Rattle.search_laws.specs.Counts.{over, over_in, Tied, Held, Room}

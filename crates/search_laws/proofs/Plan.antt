@@ -1,24 +1,24 @@
 -- What is planned is a schedule.
-use Rattle.std.proofs.Common.{◌≡◌, ℕ, zero, suc, ◌+◌, ◌-◌, ◌*◌, ◌/◌, ◌%◌, ◌^◌, ◌<◌, ◌≤◌, max, Bool, true, false, cond, ◌&&◌, eqb, leb, ◌⊎◌, List, [], ◌∷◌, length, sym, refl, ap, ◌∙◌, subst, ap₂, inl, inr, mul-le-mul_right, mod-lt, suc-mul, div-add-mod', arith}
+use Rattle.std.proofs.Common.{◌≡◌, ℕ, zero, suc, ◌+◌, ◌-◌, ◌*◌, ◌<◌, ◌≤◌, true, false, cond, eqb, List, length, sym, refl, ap, ◌∙◌, subst, inl, inr, mul-le-mul_right, mod-lt, suc-mul, div-add-mod', arith}
 use mathlib.Core.Path.{fun_ext}
 use native.Mathlib.Nat.{div-eq_of_lt}
 use Rattle.std.specs.List.{AllByRecursion as All}
 use Rattle.std.proofs.ByRecursion.{All-weaker}
-use Rattle.std.proofs.lemmas.Bool.{cases_eq, cases_Bool, cases_lt, eq-eqb, ne_eqb, and_parts, leb-true, leb-false, le-leb, false≢true}
+use Rattle.std.proofs.lemmas.Bool.{cases_eq, cases_Bool, cases_lt, eq-eqb, and_parts, leb-true, leb-false, false≢true}
 use Rattle.std.proofs.lemmas.Nat.{mul-le}
 use Rattle.model.specs.Loop.{Loop, Hardware, total, WellFormed}
 use Rattle.model.specs.Edges.{edges}
 use Rattle.model.specs.declared.Edge.{Edge}
-use Rattle.model.specs.Walks.{Within, Walk, Circuit, delays, distances}
-use Rattle.model.specs.Minimum.{busy_sum, rounded_up, own_minimum, resource_minimum, NoneAbove, IsMinimum, IsHeight}
+use Rattle.model.specs.Walks.{Within, distances}
+use Rattle.model.specs.Minimum.{busy_sum, rounded_up, own_minimum, NoneAbove, IsMinimum, IsHeight}
 use Rattle.model.specs.Limits.{EdgeFits}
 use Rattle.model.specs.Relaxation.{round, rounds, Fixed}
-use Rattle.model.specs.Schedule.{Schedule, stage, stages, IsSchedule, FewStages, sequential}
-use Rattle.model.specs.Lives.{Table, Limits}
+use Rattle.model.specs.Schedule.{Schedule, stage, stages, FewStages, sequential}
+use Rattle.model.specs.Lives.{Table}
 use Rattle.model.specs.ScheduleLives.{lives_table}
 use Rattle.model.specs.Search.{Outcome, found, failed, search}
-use Rattle.model.specs.Plan.{Plan, planned, refused, at_interval, steps_of, takes, succeeds, found_at, plan_from, plan, IsPlan}
-use Rattle.model.specs.SearchLaws.{OnMachine, SoundSearch, SoundSchedule, SoundRefusal, SoundPlan, SearchIsSound, SequentialStands, PlanIsSound, PlanEnds, PlanIsOne, PlanSucceeds, Succeeded}
+use Rattle.model.specs.Plan.{Plan, planned, refused, at_interval, steps_of, takes, succeeds, found_at, plan_from, plan}
+use Rattle.model.specs.SearchLaws.{OnMachine, SoundSearch, SoundSchedule, SoundPlan, SearchIsSound, SequentialStands, PlanIsSound, PlanEnds, PlanIsOne, PlanSucceeds, Succeeded}
 use Rattle.graph_laws.proofs.Total.{total_le, total_longer}
 use Rattle.graph_laws.proofs.Fits.{edges_fit}
 use Rattle.graph_laws.proofs.Steps.{all_within}

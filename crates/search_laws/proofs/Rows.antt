@@ -1,7 +1,7 @@
 -- Rows stay within the units.
-use Rattle.std.proofs.Common.{◌≡◌, ℕ, zero, suc, ◌+◌, ◌*◌, ◌<◌, ◌≤◌, Bool, true, false, cond, ◌&&◌, eqb, ltb, ◌⊎◌, Some, None, Option, sym, refl, ap, ◌∙◌, inl, inr, arith}
-use Rattle.std.proofs.lemmas.Bool.{cases_lt, cases_eq, cases_Bool, eq-eqb, ne_eqb, lt-ltb, le-ltb, ltb-true, ltb-false, or_left, or_right, and_from, both_ways}
-use Rattle.model.specs.Loop.{Hardware, total}
+use Rattle.std.proofs.Common.{◌≡◌, ℕ, zero, suc, ◌+◌, ◌*◌, ◌<◌, ◌≤◌, Bool, true, false, cond, eqb, None, Option, refl, inl, inr, arith}
+use Rattle.std.proofs.lemmas.Bool.{cases_lt, cases_eq, cases_Bool, eq-eqb, ne_eqb, lt-ltb, ltb-false, or_left, or_right, and_from}
+use Rattle.model.specs.Loop.{Hardware}
 use Rattle.model.specs.Schedule.{uses}
 use Rattle.graph_laws.proofs.Total.{total_le, total_add}
 use Rattle.model.specs.Search.{some_below, Times, put, without, uses_of, in_row, overfull, crowded}

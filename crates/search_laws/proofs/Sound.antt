@@ -1,5 +1,5 @@
 -- What the search finds is a schedule.
-use Rattle.std.proofs.Common.{◌≡◌, ℕ, zero, suc, ◌+◌, ◌-◌, ◌*◌, ◌<◌, ◌≤◌, Bool, true, false, cond, ◌&&◌, eqb, ltb, ◌⊎◌, List, [], ◌∷◌, is_some, Some, None, Option, unwrap_or, sym, refl, ap, ◌∙◌, subst, inl, inr, add-mul, arith}
+use Rattle.std.proofs.Common.{◌≡◌, ℕ, zero, suc, ◌+◌, ◌*◌, ◌<◌, ◌≤◌, Bool, true, false, cond, eqb, List, [], ◌∷◌, is_some, Some, None, Option, unwrap_or, refl, subst, inl, inr, add-mul, arith}
 use Rattle.std.specs.List.{AllByRecursion as All}
 use Rattle.std.proofs.lemmas.Bool.{cases_eq, cases_Bool, and_parts, ltb-false, false≢true}
 use Rattle.std.proofs.lemmas.Nat.{mul-le}
@@ -9,7 +9,7 @@ use Rattle.model.specs.Edges.{EdgeMet}
 use Rattle.model.specs.Walks.{Within}
 use Rattle.model.specs.Schedule.{uses}
 use Rattle.graph_laws.proofs.Total.{total_le, total_zero}
-use Rattle.model.specs.Search.{all_below, bounded, Times, State, start, put, without, pick, late, torn, uses_of, in_row, crowded, slot, joined, placed, with_pick, step, complete, Outcome, found, failed, times_of, turn, search}
+use Rattle.model.specs.Search.{all_below, bounded, State, start, pick, late, torn, uses_of, in_row, crowded, slot, joined, placed, with_pick, step, complete, failed, times_of, turn, search}
 use Rattle.search_laws.specs.Bounded.{Under, Short, Roomy, Sound}
 use Rattle.search_laws.proofs.Rows.{in_row_without, rows_then}
 use Rattle.search_laws.proofs.Edges.{Held, held_none, edges_then}

@@ -1,11 +1,11 @@
 -- Picks, windows and steps as the definition has them.
-use Rattle.std.proofs.Common.{◌≡◌, ℕ, zero, suc, ◌+◌, ◌-◌, ◌*◌, ◌<◌, ◌≤◌, max, Bool, true, false, cond, not, ◌&&◌, ◌||◌, eqb, ltb, ◌⊎◌, List, [], ◌∷◌, length, get_or, is_some, Some, None, Option, unwrap_or, sym, refl, ap, ◌∙◌, subst, ap₂, inl, inr, add-one, arith}
+use Rattle.std.proofs.Common.{◌≡◌, ℕ, zero, suc, ◌+◌, ◌-◌, ◌*◌, ◌<◌, ◌≤◌, Bool, true, false, cond, eqb, ltb, ◌⊎◌, List, get_or, is_some, Some, None, Option, unwrap_or, sym, refl, ap, ◌∙◌, subst, ap₂, inl, inr, add-one, arith}
 use mathlib.Core.Path.{fun_ext}
-use Rattle.std.proofs.lemmas.Bool.{cases_eq, cases_lt, cases_Bool, eq-eqb, ne_eqb, lt-ltb, le-ltb, and_left, and_right, and_from, false≢true}
+use Rattle.std.proofs.lemmas.Bool.{cases_eq, cases_lt, cases_Bool, lt-ltb, le-ltb, and_left, and_right, and_from, false≢true}
 use Rattle.std.proofs.lemmas.Nat.{mul-le}
 use Rattle.model.specs.Loop.{Hardware}
 use Rattle.model.specs.declared.Edge.{Edge}
-use Rattle.model.specs.Search.{all_below, first, next, bounded, Times, put, without, State, start, better, pick, early, fallback, fits, crowded, torn, slot, joined, placed, with_pick, complete, Outcome, found, failed, times_of, step, turn, search}
+use Rattle.model.specs.Search.{all_below, first, next, bounded, Times, put, without, State, start, better, pick, early, fallback, fits, crowded, torn, slot, joined, placed, with_pick, complete, found, failed, times_of, step, turn, search}
 use Rattle.search_laws.specs.Bounded.{Under, Short, Roomy}
 use Rattle.search_laws.specs.Counts.{Put, Unmarked, Low}
 use Rattle.search_laws.proofs.Bounds.{slot_under}

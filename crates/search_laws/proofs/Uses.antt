@@ -1,9 +1,9 @@
 -- How many uses one operation has in a row.
-use Rattle.std.proofs.Common.{◌≡◌, ℕ, zero, suc, ◌+◌, ◌-◌, ◌*◌, ◌/◌, ◌%◌, ◌<◌, ◌≤◌, cond, eqb, ◌⊎◌, sym, refl, ap, ◌∙◌, inl, inr, add_assoc, suc-mul, div-add-mod', mul-suc, arith}
+use Rattle.std.proofs.Common.{◌≡◌, ℕ, zero, suc, ◌+◌, ◌*◌, ◌/◌, ◌%◌, ◌<◌, ◌≤◌, cond, eqb, ◌⊎◌, sym, refl, ap, ◌∙◌, inl, inr, add_assoc, suc-mul, div-add-mod', mul-suc, arith}
 use Rattle.std.proofs.lemmas.Bool.{cases_lt, cases_eq, eq-eqb, ne_eqb}
 use Rattle.std.proofs.lemmas.Nat.{mul-le}
 use Rattle.model.specs.Loop.{total}
-use Rattle.graph_laws.proofs.Total.{total_same, total_le, total_longer}
+use Rattle.graph_laws.proofs.Total.{total_same, total_longer}
 use Rattle.model.specs.Schedule.{uses}
 
 pub total_split : (f : ℕ → ℕ) (m n : ℕ) → total f (m + n) ≡ total f m + total (λ i. f (m + i)) n

@@ -1,5 +1,5 @@
 -- The uses of the placed operations, counted by class and row.
-use Rattle.std.specs.Prelude.{◌≡◌, ℕ, ◌+◌, ◌*◌, ◌%◌, ◌<◌, ◌≤◌, Bool, false, cond, ◌&&◌, List, None, Option, ◌==◌, nat_lt, slice_index_or}
+use Rattle.std.specs.Prelude.{◌≡◌, ℕ, ◌+◌, ◌*◌, ◌%◌, ◌<◌, ◌≤◌, Bool, false, cond, ◌&&◌, List, None, ◌==◌, nat_lt, slice_index_or}
 use Rattle.model.specs.Loop.{Hardware}
 use Rattle.model.specs.Schedule.{uses}
 use Rattle.model.specs.Search.{Times, put, in_row, some_below}
