@@ -1,8 +1,8 @@
 -- The last iteration touches the greatest cells.
-use Rattle.std.proofs.Common.{◌≡◌, ℕ, ◌+◌, ◌-◌, ◌*◌, ◌<◌, ◌≤◌, true, false, ◌⊎◌, List, map, length, get_or, take, sym, refl, ap, ◌∙◌, inl, inr, mul-le-mul_left, arith}
+use Rattle.std.proofs.Common.{◌≡◌, ℕ, ◌+◌, ◌<◌, ◌≤◌, true, false, List, map, length, get_or, take, sym, refl, ap, ◌∙◌, inl, inr, mul-le-mul_left, arith}
 use Rattle.std.proofs.lemmas.List.{get_or-map, get_or-take, length-take-le, length-map}
 use Rattle.std.proofs.lemmas.Bool.{ltb-true, lt-ltb}
-use Rattle.model.specs.Loop.{Operand, literal, variable, Operation, load, store, binary, move, op, cell}
+use Rattle.model.specs.Loop.{Operand, Operation, load, store, binary, move, op, cell}
 use Rattle.model.specs.MemoryOrder.{Touches}
 use Rattle.model.specs.Pipelining.{InMemory}
 use Rattle.reach.specs.Cells.{cell_held}
