@@ -24,7 +24,7 @@ pub fn examine<C: Code, S: Scheme>(
 ) -> Option<Denial>
     requires { (TimingsHeld hardware.now.timings) × (row.cycle + 8 < 2 ^ 64) }
     ensures { Examined (units_of hardware.now.units) bounds.trips bounds.cells row.pass row.cycle
-        (slots_from (slot_at (S.Scheme.meaning scheme.now).resolve hardware.now.timings (C.Code.issued code.now) row.pass) row.end row.first)
+        (slots_from (slot_at (S.meaning scheme.now).resolve hardware.now.timings (C.issued code.now) row.pass) row.end row.first)
         status.old taken.old status.new taken.new (answered result) }
 {
     let mut n = 0;

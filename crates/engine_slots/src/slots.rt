@@ -30,8 +30,8 @@ fn code_number(operation: Operation) -> usize
 }
 
 fn resolve_source<S: Scheme>(scheme: &S, pass: usize, source: Source) -> Source
-    ensures is { source_of result ≡ source_in (meaning scheme.now).resolve pass (source_seen source) }
-    ensures within { SourceWithin (meaning scheme.now).file result }
+    ensures is { source_of result ≡ source_in (S.meaning scheme.now).resolve pass (source_seen source) }
+    ensures within { SourceWithin (S.meaning scheme.now).file result }
 {
     match source {
         Source::Literal(z) => Source::Literal(z),
@@ -40,8 +40,8 @@ fn resolve_source<S: Scheme>(scheme: &S, pass: usize, source: Source) -> Source
 }
 
 fn resolve_operation<S: Scheme>(scheme: &S, pass: usize, operation: Operation) -> Operation
-    ensures is { operation_of result ≡ on_operands (source_in (meaning scheme.now).resolve pass) (code_operation_seen operation) }
-    ensures within { OperationWithin (meaning scheme.now).file result }
+    ensures is { operation_of result ≡ on_operands (source_in (S.meaning scheme.now).resolve pass) (code_operation_seen operation) }
+    ensures within { OperationWithin (S.meaning scheme.now).file result }
 {
     match operation {
         Operation::Load(cell) => Operation::Load(cell),
@@ -58,8 +58,8 @@ fn resolve_operation<S: Scheme>(scheme: &S, pass: usize, operation: Operation) -
 }
 
 fn resolve_target<S: Scheme>(scheme: &S, pass: usize, res: Option<usize>) -> usize
-    ensures is { result ≡ target_in (meaning scheme.now).resolve pass res }
-    ensures within { result < (meaning scheme.now).file }
+    ensures is { result ≡ target_in (S.meaning scheme.now).resolve pass res }
+    ensures within { result < (S.meaning scheme.now).file }
 {
     match res {
         Some(name) => scheme.resolve(name, pass),
@@ -68,8 +68,8 @@ fn resolve_target<S: Scheme>(scheme: &S, pass: usize, res: Option<usize>) -> usi
 }
 
 fn resolve_issue<S: Scheme>(scheme: &S, timings: &[Timing; 6], pass: usize, issue: Issue) -> Slot
-    ensures is { slot_of result ≡ slot_in (meaning scheme.now).resolve timings.now pass (slot_seen issue) }
-    ensures within { TimingsHeld timings.now → SlotWithin (meaning scheme.now).file result }
+    ensures is { slot_of result ≡ slot_in (S.meaning scheme.now).resolve timings.now pass (slot_seen issue) }
+    ensures within { TimingsHeld timings.now → SlotWithin (S.meaning scheme.now).file result }
 {
     Slot {
         operation: resolve_operation(scheme, pass, issue.operation),
@@ -87,8 +87,8 @@ pub fn fetch<C: Code, S: Scheme>(
     pass: usize,
     place: usize,
 ) -> Option<Slot>
-    ensures is { turned slot_of result ≡ turned (slot_in (S.Scheme.meaning scheme.now).resolve timings.now pass) (C.Code.issued code.now pass place) }
-    ensures within { TimingsHeld timings.now → IfSome result (SlotWithin (S.Scheme.meaning scheme.now).file) }
+    ensures is { turned slot_of result ≡ turned (slot_in (S.meaning scheme.now).resolve timings.now pass) (C.issued code.now pass place) }
+    ensures within { TimingsHeld timings.now → IfSome result (SlotWithin (S.meaning scheme.now).file) }
 {
     match code.issue(pass, place) {
         Some(issue) => Some(resolve_issue(scheme, timings, pass, issue)),

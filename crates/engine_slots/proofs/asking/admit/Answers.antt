@@ -1,5 +1,4 @@
-use Rattle.std.proofs.Common.{◌≡◌, Bool, true, false, cond, List, set, sym, ap, ◌∙◌, subst, arith, rules}
-use Rattle.model.specs.declared.Status.{Status}
+use Rattle.std.proofs.Common.{◌≡◌, cond, set, sym, subst, arith, rules}
 use Rattle.model.specs.declared.Status.TheVariants.{Waits}
 use Rattle.model.specs.Loop.{makes}
 use Rattle.engine_laws.specs.Tracks.{Tracks}

@@ -1,7 +1,6 @@
-use Rattle.std.proofs.Common.{◌≡◌, ℕ, sym, refl, arith, rules}
-use Rattle.engine_laws.proofs.Stepping.{passed_over, denied, admitted, through, at_first}
+use Rattle.std.proofs.Common.{◌≡◌, ℕ, sym, refl, arith}
+use Rattle.engine_laws.proofs.Stepping.{passed_over, denied, admitted, through}
 use Rattle.engine_slots.specs.Slots.{slot_of}
-use Rattle.engine_slots.specs.Rows.{slot_at, units_of}
 use Rattle.engine_slots.proofs.examining.examine.Goals as goal
 
 pub loop-place-preserved-in_default : goal.loop-place-preserved-in_default
