@@ -7,8 +7,7 @@ use Rattle.standing.proofs.desk.Desk.read_loop.Goals as goal
 
 -- the list is that of the loop's edges
 pub invariant_of-self : goal.invariant_of-self
-invariant_of-self c = (
-  edges_same (vec_items c.build.new.self.list)
-      (edges_in (record { machine = machine_seen c.in-Some.machine; ops = loop_seen c.in_ok-source.source })) c.build.ensures,
-  tt,
-)
+invariant_of-self c = record {
+  tied = edges_same (vec_items c.build.new.self.list)
+      (edges_in (record { machine = machine_seen c.in-Some.machine; ops = loop_seen c.in_ok-source.source })) c.build.ensures;
+}

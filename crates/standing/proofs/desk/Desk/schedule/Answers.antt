@@ -11,7 +11,7 @@ invariant_of-self g c =
     let b = c.in-Some.body in
     let holds = success_holds g.S.Scheme.meaning g.S.Scheme.place g.met.S.Scheme.lawful g.met.S.Scheme.placed b c.as_slice.result.now c.args.scheme.now c.schedule_loop.new.scheme
     c.in-Ok.scheduled (c.as_slice.ensures ∙ desk_edges c.args.self.now b c.in-Some.ensures) c.in-Ok.ensures in
-    (∣ holds.sound.is_schedule ∣₁, (holds.sound.eight, tt))
+    record { schedule = ∣ holds.sound.is_schedule ∣₁; few = holds.sound.eight }
 
 pub returns-in-Ok : goal.returns-in-Ok
 returns-in-Ok g c =
