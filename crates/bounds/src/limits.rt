@@ -1,6 +1,6 @@
 // Whether what is handed in is within the limits.
 ghost use Rattle.std.specs.Prelude.{◌≤◌, length, Decides};
-ghost use Rattle.std.specs.List.{AllByRecursion as All};
+ghost use Rattle.std.specs.List.{AllByRecursion};
 ghost use Rattle.model.specs.Limits.{EdgeFits, GraphFits, TimingFits, MachineFits};
 
 use model::{Edge, Timing};
@@ -32,7 +32,7 @@ fn timing_fits(timing: &Timing, classes: usize) -> bool
 }
 
 fn timings_fit(timings: &[Timing], classes: usize) -> bool
-    ensures { Decides result (All (TimingFits classes) timings.now) }
+    ensures { Decides result (AllByRecursion (TimingFits classes) timings.now) }
 {
     for timing in timings {
         if !timing_fits(timing, classes) {
@@ -43,7 +43,7 @@ fn timings_fit(timings: &[Timing], classes: usize) -> bool
 }
 
 fn units_fit(units: &[usize]) -> bool
-    ensures { Decides result (All (λ c. (1 ≤ c) × (c ≤ 8)) units.now) }
+    ensures { Decides result (AllByRecursion (λ c. (1 ≤ c) × (c ≤ 8)) units.now) }
 {
     for count in units {
         let count = *count;

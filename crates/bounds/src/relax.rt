@@ -1,6 +1,6 @@
 // Relaxation: rounds over the edges, until one changes nothing.
 ghost use Rattle.std.specs.Prelude.{◌≡◌, ℕ, ◌<◌, ◌≤◌, length};
-ghost use Rattle.std.specs.List.{AllByRecursion as All};
+ghost use Rattle.std.specs.List.{AllByRecursion};
 ghost use Rattle.model.specs.Limits.{EdgeFits, GraphFits};
 ghost use Rattle.model.specs.Relaxation.{offer};
 ghost use Rattle.graph_laws.specs.Trails.{value};
@@ -42,7 +42,7 @@ fn offered(e: &Edge, k: usize, old: &[usize; 32]) -> usize
 
 // One round: each operation takes the best that its edges offer, by the old values.
 pub(crate) fn round(edges: &[Edge], k: usize, old: &[usize; 32]) -> Row
-    requires fit { All (EdgeFits 32) edges.now }
+    requires fit { AllByRecursion (EdgeFits 32) edges.now }
     requires short { length edges.now ≤ 65535 }
     requires interval { k ≤ 256 }
     requires low { Low old.now }

@@ -1,6 +1,6 @@
 // The resource minimum.
 ghost use Rattle.std.specs.Prelude.{◌≡◌, ◌*◌, ◌≤◌, length};
-ghost use Rattle.std.specs.List.{AllByRecursion as All};
+ghost use Rattle.std.specs.List.{AllByRecursion};
 ghost use Rattle.model.specs.Limits.{hardware, TimingFits, MachineFits};
 ghost use Rattle.model.specs.Minimum.{own_minimum};
 ghost use Rattle.graph_laws.specs.Trails.{Leads};
@@ -18,7 +18,7 @@ pub struct Resource {
 // The sum of BUSY over the operations of a class.
 fn busy_sum(timings: &[Timing], class: usize) -> usize
     requires few { length timings.now ≤ 32 }
-    requires short { All (λ u. u.busy ≤ 8) timings.now }
+    requires short { AllByRecursion (λ u. u.busy ≤ 8) timings.now }
     ensures exact { result ≡ class_busy timings.now (length timings.now) class }
     ensures limit { result ≤ 256 }
 {

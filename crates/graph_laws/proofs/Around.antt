@@ -1,6 +1,6 @@
 -- Walks: that a circuit takes an iteration, and what a circuit says of every schedule.
 use Rattle.std.proofs.Common.{◌≡◌, ℕ, ◌+◌, ◌*◌, ◌<◌, ◌≤◌, List, [], ◌∷◌, length, ap, inl, inr, add-mul, arith}
-use Rattle.std.specs.List.{AllByRecursion as All}
+use Rattle.std.specs.List.{AllByRecursion}
 use Rattle.std.proofs.ByRecursion.{All-get_or}
 use Rattle.std.proofs.lemmas.Bool.{cases_eq, cases_lt}
 use Rattle.model.specs.declared.Edge.{Edge}
@@ -26,7 +26,7 @@ pub no_standing_circuit : NoStandingCircuit
 no_standing_circuit ops hw formed xs c = forward_circuit (edges ops hw) (edges_lead_forward ops hw formed).1 xs c
 
 -- of a walk whose own edges are met
-pub own_met : (es : List Edge) (time : ℕ → ℕ) (k u v : ℕ) (xs : List ℕ) → Walk es u xs v → All (λ x. EdgeMet time k (edge es x)) xs →
+pub own_met : (es : List Edge) (time : ℕ → ℕ) (k u v : ℕ) (xs : List ℕ) → Walk es u xs v → AllByRecursion (λ x. EdgeMet time k (edge es x)) xs →
     time u + delays es xs ≤ time v + distances es xs * k
 own_met es time k u v [] w met = omega (arith, ap time w)
 own_met es time k u v (x ∷ xs) w met =
@@ -38,13 +38,13 @@ circuit_excludes es k xs c w met = elim (cases_lt w.interval k) [
   | inr g ↦ g
 ]
 
-of_walk : (es : List Edge) (P : Edge → Type 0) → All P es → (u v : ℕ) (xs : List ℕ) → Walk es u xs v → All (λ x. P (edge es x)) xs
+of_walk : (es : List Edge) (P : Edge → Type 0) → AllByRecursion P es → (u v : ℕ) (xs : List ℕ) → Walk es u xs v → AllByRecursion (λ x. P (edge es x)) xs
 of_walk es P h u v [] w = tt
 of_walk es P h u v (x ∷ xs) w = (All-get_or P es x _ w.0 h, of_walk es P h (edge es x).to v xs w.2)
 
-pub walk_met : (es : List Edge) (time : ℕ → ℕ) (k : ℕ) → All (EdgeMet time k) es → (u v : ℕ) (xs : List ℕ) → Walk es u xs v →
+pub walk_met : (es : List Edge) (time : ℕ → ℕ) (k : ℕ) → AllByRecursion (EdgeMet time k) es → (u v : ℕ) (xs : List ℕ) → Walk es u xs v →
     time u + delays es xs ≤ time v + distances es xs * k
 walk_met es time k met u v xs w = own_met es time k u v xs w (of_walk es (EdgeMet time k) met u v xs w)
 
-pub none_above : (es : List Edge) (time : ℕ → ℕ) (k : ℕ) → All (EdgeMet time k) es → NoneAbove es k
+pub none_above : (es : List Edge) (time : ℕ → ℕ) (k : ℕ) → AllByRecursion (EdgeMet time k) es → NoneAbove es k
 none_above es time k met xs c = omega (arith, walk_met es time k met c.1.0 c.1.0 xs c.1.1)

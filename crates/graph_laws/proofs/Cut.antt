@@ -1,6 +1,6 @@
 -- A long walk has a simple circuit in it, and one that no shorter walk equals has a circuit above k.
 use Rattle.std.proofs.Common.{◌≡◌, ℕ, suc, ◌+◌, ◌*◌, ◌<◌, ◌≤◌, ◌⊎◌, List, [], ◌∷◌, ◌++◌, length, sym, refl, ap, ◌∙◌, inl, inr, add-mul, arith}
-use Rattle.std.specs.List.{AllByRecursion as All}
+use Rattle.std.specs.List.{AllByRecursion}
 use Rattle.std.proofs.ByRecursion.{All-get_or}
 use Rattle.std.proofs.lemmas.Bool.{cases_eq, cases_lt}
 use Rattle.model.specs.declared.Edge.{Edge}
@@ -20,7 +20,7 @@ module _ (es : List Edge) where
   length_nodes [] v = refl
   length_nodes (x ∷ xs) v = ap suc (length_nodes xs v)
 
-  nodes_within : (n : ℕ) → Within n es → (u v : ℕ) (xs : List ℕ) → u < n → Walk es u xs v → All (λ y. y < n) (nodes xs v)
+  nodes_within : (n : ℕ) → Within n es → (u v : ℕ) (xs : List ℕ) → u < n → Walk es u xs v → AllByRecursion (λ y. y < n) (nodes xs v)
   nodes_within n inside u v [] h w = (omega (arith, w), tt)
   nodes_within n inside u v (x ∷ xs) h w =
       let here : ((edge es x).from < n) × ((edge es x).to < n) = All-get_or (λ e. (e.from < n) × (e.to < n)) es x _ w.0 inside in

@@ -1,6 +1,6 @@
 -- What holds of every edge of the list, by the rules.
 use Rattle.std.proofs.Common.{◌≡◌, ℕ, zero, suc, ◌+◌, ◌*◌, ◌<◌, ◌≤◌, true, false, not, ◌&&◌, ◌||◌, eqb, ltb, leb, ◌⊎◌, List, [], ◌∷◌, ◌++◌, length, sym, refl, subst, inl, inr, arith}
-use Rattle.std.specs.List.{AllByRecursion as All}
+use Rattle.std.specs.List.{AllByRecursion}
 use Rattle.std.proofs.ByRecursion.{All-append, All-weaker}
 use Rattle.std.proofs.lemmas.Bool.{cases_eq, cases_lt, cases_Bool, and_parts, and_from, or_cases, or_left, or_right, not-true, not_from_false, eqb-true, eq-eqb, ne_eqb, lt-ltb, le-ltb, le-leb, ltb-true, leb-true}
 use Rattle.model.specs.Loop.{Loop, Operand, literal, variable, Operation, load, store, binary, move, op, operands, makes, EachOperand, in_memory, stride_of, offset_of, Hardware, Named}
@@ -9,19 +9,19 @@ use Rattle.model.specs.Edges.{each, operand_edge, operand_edges, memory_delay, m
 use Rattle.model.specs.GraphLaws.{Among, OperandEdge, Follows, MemoryEdge, ListMeansRules, EdgesLeadForward, DelaysAreShort}
 
 module _ {A : Type 0} (P : A → Type 0) where
-  pub all_left : (xs ys : List A) → All P (xs ++ ys) → All P xs
+  pub all_left : (xs ys : List A) → AllByRecursion P (xs ++ ys) → AllByRecursion P xs
   all_left [] ys h = tt
   all_left (x ∷ xs) ys h = (h.0, all_left xs ys h.1)
 
-  pub all_right : (xs ys : List A) → All P (xs ++ ys) → All P ys
+  pub all_right : (xs ys : List A) → AllByRecursion P (xs ++ ys) → AllByRecursion P ys
   all_right [] ys h = h
   all_right (x ∷ xs) ys h = all_right xs ys h.1
 
-  pub all_each : (f : ℕ → List A) (n : ℕ) → ((i : ℕ) → i < n → All P (f i)) → All P (each f n)
+  pub all_each : (f : ℕ → List A) (n : ℕ) → ((i : ℕ) → i < n → AllByRecursion P (f i)) → AllByRecursion P (each f n)
   all_each f zero h = tt
   all_each f (suc n) h = All-append P (each f n) (f n) (all_each f n (λ i l. h i (omega arith))) (h n (omega arith))
 
-  pub each_all : (f : ℕ → List A) (n : ℕ) → All P (each f n) → (i : ℕ) → i < n → All P (f i)
+  pub each_all : (f : ℕ → List A) (n : ℕ) → AllByRecursion P (each f n) → (i : ℕ) → i < n → AllByRecursion P (f i)
   each_all f zero h i l = absurd (omega arith)
   each_all f (suc n) h i l = elim (cases_eq i n) [
     | inl e ↦ rw e (all_right (each f n) (f n) h)
@@ -34,19 +34,19 @@ OfOperand P hw q (literal z) = Unit {0}
 OfOperand P hw q (variable p d) = P (record { from = p; to = q; delay = hw.latency p; distance = d })
 
 module _ (P : Edge → Type 0) (hw : Hardware) (q : ℕ) where
-  one_operand : (a : Operand) → OfOperand P hw q a → All P (operand_edge hw q a)
+  one_operand : (a : Operand) → OfOperand P hw q a → AllByRecursion P (operand_edge hw q a)
   one_operand (literal z) h = tt
   one_operand (variable p d) h = (h, tt)
 
-  operand_one : (a : Operand) → All P (operand_edge hw q a) → OfOperand P hw q a
+  operand_one : (a : Operand) → AllByRecursion P (operand_edge hw q a) → OfOperand P hw q a
   operand_one (literal z) h = tt
   operand_one (variable p d) h = h.0
 
-  to_list : (l : List Operand) → All (OfOperand P hw q) l → All P (operand_edges hw q l)
+  to_list : (l : List Operand) → AllByRecursion (OfOperand P hw q) l → AllByRecursion P (operand_edges hw q l)
   to_list [] h = tt
   to_list (a ∷ l) h = All-append P (operand_edge hw q a) (operand_edges hw q l) (one_operand a h.0) (to_list l h.1)
 
-  of_list : (l : List Operand) → All P (operand_edges hw q l) → All (OfOperand P hw q) l
+  of_list : (l : List Operand) → AllByRecursion P (operand_edges hw q l) → AllByRecursion (OfOperand P hw q) l
   of_list [] h = tt
   of_list (a ∷ l) h = (
     operand_one a (all_left P (operand_edge hw q a) (operand_edges hw q l) h),
@@ -55,25 +55,25 @@ module _ (P : Edge → Type 0) (hw : Hardware) (q : ℕ) where
 
 -- An operation's operands, one by one and as a list.
 module _ {A : Type 0} (P : A → Type 0) where
-  pub each_to_all : (o : Operation A) → EachOperand P o → All P (operands o)
+  pub each_to_all : (o : Operation A) → EachOperand P o → AllByRecursion P (operands o)
   each_to_all (load s a) h = tt
   each_to_all (store x s a) h = (h, tt)
   each_to_all (binary c x y) h = (h.0, (h.1, tt))
   each_to_all (move x) h = (h, tt)
 
-  pub all_to_each : (o : Operation A) → All P (operands o) → EachOperand P o
+  pub all_to_each : (o : Operation A) → AllByRecursion P (operands o) → EachOperand P o
   all_to_each (load s a) h = tt
   all_to_each (store x s a) h = h.0
   all_to_each (binary c x y) h = (h.0, h.1.0)
   all_to_each (move x) h = h.0
 
 -- What holds of all holds of each that is among them, and each is among all.
-pub among_all : {A : Type 0} (P : A → Type 0) (x : A) (xs : List A) → Among x xs → All P xs → P x
+pub among_all : {A : Type 0} (P : A → Type 0) (x : A) (xs : List A) → Among x xs → AllByRecursion P xs → P x
 among_all P x [] m h = absurd m
 among_all P x (y ∷ ys) (inl e) h = subst P (sym e) h.0
 among_all P x (y ∷ ys) (inr m) h = among_all P x ys m h.1
 
-pub all_among : {A : Type 0} (xs : List A) → All (λ x. Among x xs) xs
+pub all_among : {A : Type 0} (xs : List A) → AllByRecursion (λ x. Among x xs) xs
 all_among [] = tt
 all_among (x ∷ xs) = (inl refl, All-weaker (λ y. Among y xs) (λ y. Among y (x ∷ xs)) (λ y m. inr m) xs (all_among xs))
 
@@ -90,19 +90,19 @@ module _ (P : Edge → Type 0) (ops : Loop) (hw : Hardware) where
   abbrev pub MemoryPart : Type 0
   MemoryPart = (p q d : ℕ) → p < length ops → q < length ops → (p ≡ q → ⊥) → d < 8 → joins ops p q d ≡ true → P (memory_link ops p q d)
 
-  linked : (p q d : ℕ) → (joins ops p q d ≡ true → P (memory_link ops p q d)) → All P (memory_edge ops p q d)
+  linked : (p q d : ℕ) → (joins ops p q d ≡ true → P (memory_link ops p q d)) → AllByRecursion P (memory_edge ops p q d)
   linked p q d h = elim (cases_Bool (joins ops p q d)) [ inl e ↦ rw e (h e, tt) | inr e ↦ rw e tt ]
 
-  link : (p q d : ℕ) → All P (memory_edge ops p q d) → joins ops p q d ≡ true → P (memory_link ops p q d)
+  link : (p q d : ℕ) → AllByRecursion P (memory_edge ops p q d) → joins ops p q d ≡ true → P (memory_link ops p q d)
   link p q d h e = (rw e at h).0
 
-  pub all_edges : OperandPart → MemoryPart → All P (edges ops hw)
+  pub all_edges : OperandPart → MemoryPart → AllByRecursion P (edges ops hw)
   unfolding edges
   all_edges f g = All-append P _ _
       (all_each P _ (length ops) (λ q l. to_list P hw q (operands (op ops q)) (each_to_all (OfOperand P hw q) (op ops q) (f q l))))
       (all_each P _ (length ops) (λ p hp. all_each P _ (length ops) (λ q hq. pair p q hp hq)))
     where
-      pair : (p q : ℕ) → p < length ops → q < length ops → All P (between ops p q)
+      pair : (p q : ℕ) → p < length ops → q < length ops → AllByRecursion P (between ops p q)
       pair p q hp hq = elim (cases_lt p q) [
         | inl l ↦ rw (lt-ltb p q l) (all_each P (λ d. memory_edge ops p q d ++ memory_edge ops q p d) 8 (λ d h. All-append P (memory_edge ops p q d) (memory_edge ops q p d)
             (linked p q d (g p q d hp hq (λ e. omega arith) h))
@@ -110,20 +110,20 @@ module _ (P : Edge → Type 0) (ops : Loop) (hw : Hardware) where
         | inr z ↦ rw (le-ltb p q z) tt
       ]
 
-  pub operand_part : All P (edges ops hw) → OperandPart
+  pub operand_part : AllByRecursion P (edges ops hw) → OperandPart
   unfolding edges
   operand_part h q l = all_to_each (OfOperand P hw q) (op ops q) (of_list P hw q (operands (op ops q)) (each_all P (λ q. operand_edges hw q (operands (op ops q))) (length ops) (all_left P _ _ h) q l))
 
-  pair_part : All P (edges ops hw) → (p q d : ℕ) → p < length ops → q < length ops → p < q → d < 8 → All P (memory_edge ops p q d ++ memory_edge ops q p d)
+  pair_part : AllByRecursion P (edges ops hw) → (p q d : ℕ) → p < length ops → q < length ops → p < q → d < 8 → AllByRecursion P (memory_edge ops p q d ++ memory_edge ops q p d)
   unfolding edges
   pair_part h p q d hp hq l hd =
-      let row : All P (each (λ q. between ops p q) (length ops)) = each_all P (λ p. each (λ q. between ops p q) (length ops)) (length ops)
+      let row : AllByRecursion P (each (λ q. between ops p q) (length ops)) = each_all P (λ p. each (λ q. between ops p q) (length ops)) (length ops)
       (all_right P (each (λ q. operand_edges hw q (operands (op ops q))) (length ops)) _ h) p hp in
-      let here : All P (between ops p q) = each_all P (λ q. between ops p q) (length ops) row q hq in
-      let open' : All P (each (λ d. memory_edge ops p q d ++ memory_edge ops q p d) 8) = rw (lt-ltb p q l) at here in
+      let here : AllByRecursion P (between ops p q) = each_all P (λ q. between ops p q) (length ops) row q hq in
+      let open' : AllByRecursion P (each (λ d. memory_edge ops p q d ++ memory_edge ops q p d) 8) = rw (lt-ltb p q l) at here in
       each_all P (λ d. memory_edge ops p q d ++ memory_edge ops q p d) 8 open' d hd
 
-  pub memory_part : All P (edges ops hw) → MemoryPart
+  pub memory_part : AllByRecursion P (edges ops hw) → MemoryPart
   memory_part h p q d hp hq n hd e = elim (cases_lt p q) [
     | inl l ↦ link p q d (all_left P (memory_edge ops p q d) (memory_edge ops q p d) (pair_part h p q d hp hq l hd)) e
     | inr z ↦ link p q d (all_right P (memory_edge ops q p d) (memory_edge ops p q d) (pair_part h q p d hq hp (omega arith) hd)) e
@@ -211,7 +211,7 @@ module _ (ops : Loop) (hw : Hardware) where
   named q l (literal z) m = tt
   named q l (variable p d) m = inl (l, m, refl)
 
-  all_ruled : All Ruled (edges ops hw)
+  all_ruled : AllByRecursion Ruled (edges ops hw)
   unfolding Joined
   all_ruled = all_edges Ruled ops hw
       (λ q l. all_to_each (OfOperand Ruled hw q) (op ops q) (All-weaker (λ a. Among a (operands (op ops q))) (OfOperand Ruled hw q) (named q l) (operands (op ops q)) (all_among (operands (op ops q)))))

@@ -1,6 +1,6 @@
 -- The order of memory: what edges, and at most eight stages, say of two instances that touch one cell.
 use Rattle.std.proofs.Common.{◌≡◌, ℕ, ◌+◌, ◌-◌, ◌*◌, ◌<◌, ◌≤◌, true, false, ◌⊎◌, length, refl, ap, ◌∙◌, inl, inr, mul-le-mul_right, add-mul, arith}
-use Rattle.std.specs.List.{AllByRecursion as All}
+use Rattle.std.specs.List.{AllByRecursion}
 use Rattle.std.proofs.lemmas.Bool.{cases_eq, cases_lt}
 use Rattle.model.specs.Loop.{Loop, Operand, literal, variable, Operation, load, store, binary, move, op, Stores, makes, in_memory, stride_of, offset_of, cell, Hardware}
 use Rattle.model.specs.Edges.{EdgeMet, edges, memory_delay}
@@ -30,7 +30,7 @@ stores (store v s a) i x e = refl
 stores (binary c v y) i x e = absurd e
 stores (move v) i x e = absurd e
 
-module _ (ops : Loop) (hw : Hardware) (w : Schedule) (positive : 0 < w.interval) (few : FewStages ops w) (met : All (EdgeMet w.time w.interval) (edges ops hw)) where
+module _ (ops : Loop) (hw : Hardware) (w : Schedule) (positive : 0 < w.interval) (few : FewStages ops w) (met : AllByRecursion (EdgeMet w.time w.interval) (edges ops hw)) where
   -- Two different operations, in iterations i and i + d, touch one cell.
   module _ (p i q m d x : ℕ) (hp : p < length ops) (hq : q < length ops) (n : p ≡ q → ⊥) (e : Earlier p i q m) (is : m ≡ i + d)
       (a : Access (op ops p) i x) (b : Access (op ops q) m x) (one_stores : (makes (op ops p) ≡ false) ⊎ (makes (op ops q) ≡ false)) where

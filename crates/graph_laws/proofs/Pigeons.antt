@@ -1,6 +1,6 @@
 -- A list of different numbers below n has at most n of them.
 use Rattle.std.proofs.Common.{◌≡◌, ℕ, zero, suc, ◌+◌, ◌<◌, ◌≤◌, cond, eqb, List, [], ◌∷◌, length, sym, refl, inl, inr, arith}
-use Rattle.std.specs.List.{AllByRecursion as All}
+use Rattle.std.specs.List.{AllByRecursion}
 use Rattle.std.proofs.lemmas.Bool.{cases_eq, eq-eqb, ne_eqb}
 use Rattle.model.specs.Loop.{total}
 use Rattle.model.specs.Walks.{Absent, Distinct}
@@ -26,7 +26,7 @@ pub total_ones : (n : ℕ) → total (λ _. 1) n ≡ n
 total_ones zero = refl
 total_ones (suc n) = omega (arith, total_ones n)
 
-counted : (n : ℕ) (ys : List ℕ) → All (λ y. y < n) ys → total (count ys) n ≡ length ys
+counted : (n : ℕ) (ys : List ℕ) → AllByRecursion (λ y. y < n) ys → total (count ys) n ≡ length ys
 counted n [] h = total_zero n
 counted n (y ∷ ys) h = omega (arith, total_add (λ v. cond (eqb y v) 1 0) (count ys) n, total_hit y n h.0, counted n ys h.1)
 
@@ -41,5 +41,5 @@ once v (y ∷ ys) h = elim (cases_eq y v) [
   | inr n ↦ rw (ne_eqb y v n) (omega (arith, once v ys h.1))
 ]
 
-pub pigeons : (n : ℕ) (ys : List ℕ) → Distinct ys → All (λ y. y < n) ys → length ys ≤ n
+pub pigeons : (n : ℕ) (ys : List ℕ) → Distinct ys → AllByRecursion (λ y. y < n) ys → length ys ≤ n
 pigeons n ys d h = omega (arith, counted n ys h, total_le (count ys) (λ _. 1) n (λ v _. once v ys d), total_ones n)

@@ -1,7 +1,7 @@
 -- One more edge of a round.
 use Rattle.std.proofs.Common.{◌≡◌, ℕ, zero, suc, ◌+◌, ◌-◌, ◌*◌, ◌<◌, ◌≤◌, max, cond, eqb, List, [], ◌∷◌, ◌++◌, length, get_or, take, set, replicate, sym, refl, ap, ◌∙◌, subst, subst₂, inl, inr, mul-le-mul, add-one, arith}
 use mathlib.Core.Path.{fun_ext}
-use Rattle.std.specs.List.{AllByRecursion as All}
+use Rattle.std.specs.List.{AllByRecursion}
 use Rattle.std.proofs.lemmas.List.{take_more, get_or-set_same, get_or-set_other}
 use Rattle.std.proofs.ByRecursion.{All-get_or, All-weaker}
 use Rattle.std.proofs.lemmas.Bool.{cases_eq, cases_lt, eq-eqb, ne_eqb}
@@ -15,13 +15,13 @@ use Rattle.graph_laws.proofs.Relaxed.{round_keeps, round_came, fixed_is_height}
 use Rattle.model.specs.Limits.{EdgeFits}
 use Rattle.graph_laws.specs.Trails.{value, Marked, Traced}
 
-pub fits_at : (n : ℕ) (es : List Edge) (i : ℕ) → All (EdgeFits n) es → i < length es → EdgeFits n (edge es i)
+pub fits_at : (n : ℕ) (es : List Edge) (i : ℕ) → AllByRecursion (EdgeFits n) es → i < length es → EdgeFits n (edge es i)
 fits_at n es i s l = All-get_or (EdgeFits n) es i _ l s
 
-pub widened : (n m : ℕ) (es : List Edge) → n ≤ m → All (EdgeFits n) es → All (EdgeFits m) es
+pub widened : (n m : ℕ) (es : List Edge) → n ≤ m → AllByRecursion (EdgeFits n) es → AllByRecursion (EdgeFits m) es
 widened n m es l h = All-weaker (EdgeFits n) (EdgeFits m) (λ e f. record { from = omega (arith, f.from); to = omega (arith, f.to); delay = f.delay; distance = f.distance }) es h
 
-pub all_within : (n : ℕ) (es : List Edge) → All (EdgeFits n) es → Within n es
+pub all_within : (n : ℕ) (es : List Edge) → AllByRecursion (EdgeFits n) es → Within n es
 all_within n es h = All-weaker (EdgeFits n) (λ e. (e.from < n) × (e.to < n)) (λ e f. (f.from, f.to)) es h
 
 pub round_push : (k : ℕ) (h : ℕ → ℕ) (es : List Edge) (e : Edge) (u : ℕ) →
@@ -124,7 +124,7 @@ module _ (k r : ℕ) (es : List Edge) (old new : List ℕ) (inv : (u : ℕ) → 
       let e : (r + 1) - 1 ≡ r = omega arith in
       rw e (omega (arith, n, one_more u, inv u, step u, round_keeps k (value old) es u))
 
-rounds_low : (k n : ℕ) (es : List Edge) → All (EdgeFits n) es → (r u : ℕ) → rounds k es r u ≤ 8 * r
+rounds_low : (k n : ℕ) (es : List Edge) → AllByRecursion (EdgeFits n) es → (r u : ℕ) → rounds k es r u ≤ 8 * r
 unfolding rounds
 rounds_low k n es s zero u = omega arith
 rounds_low k n es s (suc r) u = elim (round_came k (rounds k es r) es u) [
@@ -132,7 +132,7 @@ rounds_low k n es s (suc r) u = elim (round_came k (rounds k es r) es u) [
   | inr c ↦ omega (arith, c.3, rounds_low k n es s r (edge es c.0).to, (fits_at n es c.0 s c.1).delay)
 ]
 
-pub low : (k n r : ℕ) (es : List Edge) (hs : List ℕ) → All (EdgeFits n) es → r ≤ 32 → ((u : ℕ) → get_or hs u 0 ≡ rounds k es r u) → (u : ℕ) → get_or hs u 0 ≤ 256
+pub low : (k n r : ℕ) (es : List Edge) (hs : List ℕ) → AllByRecursion (EdgeFits n) es → r ≤ 32 → ((u : ℕ) → get_or hs u 0 ≡ rounds k es r u) → (u : ℕ) → get_or hs u 0 ≤ 256
 low k n r es hs s h inv u = omega (arith, inv u, rounds_low k n es s r u)
 
 pub least : (es : List Edge) (k : ℕ) → 1 ≤ k → NoneAbove es k → ((m : ℕ) → 1 ≤ m → m < k → NoneAbove es m → ⊥) → RecurrenceMinimum es k
@@ -154,12 +154,12 @@ circuit_here es k n u inside some better =
     (c.0, c.1, c.3)
 
 -- The same at 256, which is more than the delays of a simple circuit: some circuit has no distance.
-module _ (es : List Edge) (n : ℕ) (fit : All (EdgeFits n) es) where
+module _ (es : List Edge) (n : ℕ) (fit : AllByRecursion (EdgeFits n) es) where
   delays_most : (u v : ℕ) (xs : List ℕ) → Walk es u xs v → delays es xs ≤ 8 * length xs
   delays_most u v [] w = omega arith
   delays_most u v (x ∷ xs) w = omega (arith, (fits_at n es x fit w.0).delay, delays_most (edge es x).to v xs w.2)
 
-  froms_below : (u v : ℕ) (xs : List ℕ) → Walk es u xs v → All (λ y. y < n) (froms es xs)
+  froms_below : (u v : ℕ) (xs : List ℕ) → Walk es u xs v → AllByRecursion (λ y. y < n) (froms es xs)
   froms_below u v [] w = tt
   froms_below u v (x ∷ xs) w = ((fits_at n es x fit w.0).from, froms_below (edge es x).to v xs w.2)
 

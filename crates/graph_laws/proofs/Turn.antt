@@ -1,6 +1,6 @@
 -- A circuit turned: what was before a place comes after it.
 use Rattle.std.proofs.Common.{◌≡◌, ℕ, suc, ◌*◌, ◌<◌, ◌≤◌, List, [], ◌∷◌, ◌++◌, length, sym, refl, ap, mul-le-mul_left, arith}
-use Rattle.std.specs.List.{AllByRecursion as All}
+use Rattle.std.specs.List.{AllByRecursion}
 use Rattle.std.proofs.lemmas.List.{append-nil, length-append}
 use Rattle.std.proofs.ByRecursion.{All-append}
 use Rattle.model.specs.declared.Edge.{Edge}
@@ -9,11 +9,11 @@ use Rattle.model.specs.Minimum.{CircuitWitness}
 use Rattle.graph_laws.proofs.Listed.{all_left, all_right}
 use Rattle.graph_laws.proofs.Cut.{delays_append, distances_append, walk_append}
 
-all_insert : (P : ℕ → Type 0) (p q : List ℕ) (x : ℕ) → All P (p ++ q) → P x → All P (p ++ (x ∷ q))
+all_insert : (P : ℕ → Type 0) (p q : List ℕ) (x : ℕ) → AllByRecursion P (p ++ q) → P x → AllByRecursion P (p ++ (x ∷ q))
 all_insert P [] q x h k = (k, h)
 all_insert P (y ∷ p) q x h k = (h.0, all_insert P p q x h.1 k)
 
-all_swap : (P : ℕ → Type 0) (p q : List ℕ) → All P (p ++ q) → All P (q ++ p)
+all_swap : (P : ℕ → Type 0) (p q : List ℕ) → AllByRecursion P (p ++ q) → AllByRecursion P (q ++ p)
 all_swap P p q h = All-append P q p (all_right P p q h) (all_left P p q h)
 
 distinct_insert : (p q : List ℕ) (x : ℕ) → Distinct (p ++ q) → Absent x (p ++ q) → Distinct (p ++ (x ∷ q))
@@ -30,7 +30,7 @@ module _ (es : List Edge) where
   froms_append (x ∷ xs) ys = ap (λ l. (edge es x).from ∷ l) (froms_append xs ys)
 
   -- A simple circuit in two parts, above k; its second part begins with its lowest operation.
-  pub turned : (k y z : ℕ) (xs ys : List ℕ) → Walk es y xs z → Walk es z ys y → 0 < length ys → Simple es (xs ++ ys) → All (λ v. z ≤ v) (froms es (xs ++ ys)) →
+  pub turned : (k y z : ℕ) (xs ys : List ℕ) → Walk es y xs z → Walk es z ys y → 0 < length ys → Simple es (xs ++ ys) → AllByRecursion (λ v. z ≤ v) (froms es (xs ++ ys)) →
       distances es (xs ++ ys) * k < delays es (xs ++ ys) → CircuitWitness es (suc k) (ys ++ xs)
   turned k y z xs ys w v some simple lowest above = record {
     some = omega (arith, length-append ys xs);

@@ -1,6 +1,6 @@
 -- The sequential times meet every edge at the sum of the latencies; and how the least interval is known.
 use Rattle.std.proofs.Common.{◌≡◌, ℕ, suc, ◌+◌, ◌*◌, ◌<◌, ◌≤◌, eqb, length, inl, inr, mul-le-mul_right, mul-le-mul_left, arith}
-use Rattle.std.specs.List.{AllByRecursion as All}
+use Rattle.std.specs.List.{AllByRecursion}
 use Rattle.std.proofs.lemmas.Bool.{cases_eq, cases_lt, cases_Bool}
 use Rattle.model.specs.Loop.{Loop, Operand, literal, variable, op, Hardware, total, WellFormed, Named}
 use Rattle.model.specs.Edges.{EdgeMet, edges, memory_delay}
@@ -24,7 +24,7 @@ module _ (ops : Loop) (hw : Hardware) (formed : WellFormed ops hw) where
         omega (arith, total_longer hw.latency (suc p) (length ops) hp, mul-le-mul_right whole one)
   ]
 
-  pub sequential_met : All (EdgeMet (total hw.latency) whole) (edges ops hw)
+  pub sequential_met : AllByRecursion (EdgeMet (total hw.latency) whole) (edges ops hw)
   unfolding Joined
   sequential_met = all_edges (EdgeMet (total hw.latency) whole) ops hw
       (λ q l. each_operand _ _ (operand q) (op ops q) (formed.named q l))

@@ -1,6 +1,6 @@
 -- The circuit that the code names is a witness.
 use Rattle.std.proofs.Common.{◌≡◌, ℕ, zero, suc, ◌+◌, ◌-◌, ◌*◌, ◌<◌, ◌≤◌, List, [], ◌∷◌, ◌++◌, length, get_or, take, drop, set, sym, refl, ap, ◌∙◌, subst, inl, inr, add-one, arith, take-add}
-use Rattle.std.specs.List.{AllByRecursion as All}
+use Rattle.std.specs.List.{AllByRecursion}
 use Rattle.std.proofs.lemmas.List.{length-take-le, length-drop, drop-drop, drop-take, take-take, drop_more, take_more, take_more_set, get_or-take, get_or-drop, append_assoc}
 use Rattle.std.proofs.lemmas.Bool.{cases_lt}
 use Rattle.model.specs.declared.Edge.{Edge}
@@ -31,7 +31,7 @@ module _ (es : List Edge) where
   walk_split u v [] ys w = (u, refl, w)
   walk_split u v (x ∷ xs) ys w = let s = walk_split (edge es x).to v xs ys w.2 in (s.0, (w.0, w.1, s.1), s.2)
 
-  all_froms : (z : ℕ) (xs : List ℕ) → ((t : ℕ) → t < length xs → z ≤ (edge es (get_or xs t 0)).from) → All (λ v. z ≤ v) (froms es xs)
+  all_froms : (z : ℕ) (xs : List ℕ) → ((t : ℕ) → t < length xs → z ≤ (edge es (get_or xs t 0)).from) → AllByRecursion (λ v. z ≤ v) (froms es xs)
   all_froms z [] h = tt
   all_froms z (x ∷ xs) h = (h 0 (omega arith), all_froms z xs (λ t l. h (suc t) (omega arith)))
 
@@ -65,13 +65,13 @@ module _ (es : List Edge) where
       let e : j - low ≡ suc (j - low - 1) = omega arith in
       ap (λ n. take n (drop low path)) e ∙ ap (take (suc (j - low - 1))) (drop_more path low 0 (omega (arith, r.inside))) in
       let from : (edge es (get_or path low 0)).from ≡ s.0 = first_from s.0 c.at (get_or path low 0) _ ys head s.2 in
-      let lowest : All (λ v. s.0 ≤ v) (froms es (take (j - i) (drop i path))) = all_froms s.0 (take (j - i) (drop i path)) (λ t l.
+      let lowest : AllByRecursion (λ v. s.0 ≤ v) (froms es (take (j - i) (drop i path))) = all_froms s.0 (take (j - i) (drop i path)) (λ t l.
       let bound : t < j - i = omega (arith, length-take-le (j - i) (drop i path) (omega (arith, length-drop i path, r.inside))) in
       let at : get_or (take (j - i) (drop i path)) t 0 ≡ get_or path (i + t) 0 = get_or-take (j - i) (drop i path) t 0 bound ∙ get_or-drop i path t 0 in
       omega (arith, from, least (i + t) (omega arith) (omega arith), ap (λ x. (edge es x).from) at)) in
       rw add-one (turned es k c.at s.0 xs ys s.1 s.2 (omega (arith, ap length head))
       (subst (λ l. Simple es l) parts c.simple)
-      (subst (λ l. All (λ v. s.0 ≤ v) (froms es l)) (sym whole ∙ parts) lowest)
+      (subst (λ l. AllByRecursion (λ v. s.0 ≤ v) (froms es l)) (sym whole ∙ parts) lowest)
       (subst (λ l. distances es l * k < delays es l) parts gains))
 
 -- one more edge behind

@@ -1,6 +1,6 @@
 -- THE GUARANTEE, of every call in every list of calls.
 use Rattle.std.specs.Prelude.{◌≡◌, ℕ, ◌<◌, ◌≤◌, true, List, [], ◌∷◌, map, length, Some, None, Option, slice_index_or}
-use Rattle.std.specs.List.{AllByRecursion as All}
+use Rattle.std.specs.List.{AllByRecursion}
 use Rattle.model.specs.declared.Code.TheVariants.{Load, Store, Add, Sub, Mul, Move}
 use Rattle.model.specs.declared.Timing.{Timing}
 use Rattle.model.specs.MachineText.{Machine}
@@ -53,7 +53,7 @@ abbrev pub Excludes : Loop → Hardware → ℕ → Evidence → Type 0
 Excludes ops hw k (by_class u) =
     (w : Schedule) → 0 < w.interval → ((r : ℕ) → r < w.interval → row_uses ops hw w u r ≤ hw.units u) → k ≤ w.interval
 Excludes ops hw k (by_circuit xs) =
-    (w : Schedule) → All (λ x. EdgeMet w.time w.interval (edge (edges ops hw) x)) xs → k ≤ w.interval
+    (w : Schedule) → AllByRecursion (λ x. EdgeMet w.time w.interval (edge (edges ops hw) x)) xs → k ≤ w.interval
 
 -- Of a plan for a loop on its machine and a register scheme that means this much.
 pub record PlanHolds (scheme : Meaning) (m : Machine) (ops : Loop) (p : Planned) : Type 0 where

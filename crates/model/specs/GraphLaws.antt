@@ -1,6 +1,6 @@
 -- The laws of edges, circuits and the minimum.
 use Rattle.std.specs.Prelude.{◌≡◌, ℕ, suc, ◌+◌, ◌*◌, ◌<◌, ◌≤◌, true, false, ◌⊎◌, ◌↔◌, List, [], ◌∷◌, length}
-use Rattle.std.specs.List.{AllByRecursion as All}
+use Rattle.std.specs.List.{AllByRecursion}
 use Rattle.model.specs.Loop.{Loop, variable, op, operands, makes, in_memory, stride_of, offset_of, Hardware, total, WellFormed}
 use Rattle.model.specs.Edges.{Edge, EdgeMet, edges, memory_delay}
 use Rattle.model.specs.Schedule.{Schedule, IsSchedule, row_uses, sequential}
@@ -47,7 +47,7 @@ EdgesLeadForward = (ops : Loop) (hw : Hardware) → WellFormed ops hw → Within
 -- An edge asks for no more than the latency of the operation that it leaves, and a memory edge for 1 or 0.
 abbrev pub DelaysAreShort : Type 0
 DelaysAreShort = (ops : Loop) (hw : Hardware) → WellFormed ops hw →
-    All (λ e. e.delay ≤ hw.latency e.from) (edges ops hw) × ((e : Edge) → MemoryEdge ops e → e.delay ≤ 1)
+    AllByRecursion (λ e. e.delay ≤ hw.latency e.from) (edges ops hw) × ((e : Edge) → MemoryEdge ops e → e.delay ≤ 1)
 
 -- No circuit has distance 0.
 abbrev pub NoStandingCircuit : Type 0
@@ -81,7 +81,7 @@ ClassExcludes = (ops : Loop) (hw : Hardware) (classes k u : ℕ) → ClassWitnes
 -- The named circuit alone excludes each smaller interval: its own edges are not met.
 abbrev pub CircuitExcludes : Type 0
 CircuitExcludes = (es : List Edge) (k : ℕ) (xs : List ℕ) → CircuitWitness es k xs →
-    (w : Schedule) → All (λ x. EdgeMet w.time w.interval (edge es x)) xs → k ≤ w.interval
+    (w : Schedule) → AllByRecursion (λ x. EdgeMet w.time w.interval (edge es x)) xs → k ≤ w.interval
 
 -- The minimum is at most the sum of the latencies.
 abbrev pub AtMostSequential : Type 0

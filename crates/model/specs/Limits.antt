@@ -1,6 +1,6 @@
 -- What the code of the minimum and of the search takes.
 use Rattle.std.specs.Prelude.{ℕ, ◌<◌, ◌≤◌, List, length, slice_index, slice_index_or}
-use Rattle.std.specs.List.{AllByRecursion as All}
+use Rattle.std.specs.List.{AllByRecursion}
 use Rattle.model.specs.Loop.{Hardware}
 use Rattle.model.specs.declared.Edge.{Edge}
 use Rattle.model.specs.declared.Timing.{Timing}
@@ -25,7 +25,7 @@ pub record GraphFits (n : ℕ) (es : List Edge) : Type 0 where
   pub some : 0 < n
   pub few : n ≤ 32
   pub short : length es ≤ 65535
-  pub each : All (EdgeFits n) es
+  pub each : AllByRecursion (EdgeFits n) es
 
 -- A use of one of the classes, for 1 to 8 cycles.
 pub record TimingFits (classes : ℕ) (u : Timing) : Type 0 where
@@ -36,5 +36,5 @@ pub record TimingFits (classes : ℕ) (u : Timing) : Type 0 where
 -- At most 8 classes, each with 1 to 8 units.
 pub record MachineFits (us : List Timing) (units : List ℕ) : Type 0 where
   pub classes : length units ≤ 8
-  pub each : All (TimingFits (length units)) us
-  pub counts : All (λ c. (1 ≤ c) × (c ≤ 8)) units
+  pub each : AllByRecursion (TimingFits (length units)) us
+  pub counts : AllByRecursion (λ c. (1 ≤ c) × (c ≤ 8)) units

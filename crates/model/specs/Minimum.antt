@@ -1,6 +1,6 @@
 -- The minimum, its witness, and heights.
 use Rattle.std.specs.Prelude.{◌≡◌, ℕ, zero, suc, ◌+◌, ◌-◌, ◌*◌, ◌/◌, ◌<◌, ◌≤◌, max, cond, List, length, ◌==◌, ◌≢◌}
-use Rattle.std.specs.List.{AllByRecursion as All}
+use Rattle.std.specs.List.{AllByRecursion}
 use Rattle.model.specs.Loop.{Hardware, total}
 use Rattle.model.specs.Edges.{Edge}
 use Rattle.model.specs.Walks.{Walk, delays, distances, froms, Circuit, Simple}
@@ -59,7 +59,7 @@ pub record CircuitWitness (es : List Edge) (k : ℕ) (xs : List ℕ) : Type 0 wh
   pub first : ℕ
   pub closed : Walk es first xs first
   pub simple : Simple es xs
-  pub lowest : All (λ y. first ≤ y) (froms es xs)
+  pub lowest : AllByRecursion (λ y. first ≤ y) (froms es xs)
   pub too_much : (m : ℕ) → m < k → distances es xs * m < delays es xs
 
 -- The greatest sum of delay - k * distance along any walk from u. (The empty walk has 0.)

@@ -1,6 +1,6 @@
 -- THE PIPELINING THEOREM: what the driving machine does on a schedule, beside the plain loop.
 use Rattle.std.specs.Prelude.{◌≡◌, ℕ, zero, suc, ◌+◌, ◌-◌, ◌*◌, ◌/◌, ◌<◌, ◌≤◌, true, false, List, [], ◌∷◌, length, ◌≢◌}
-use Rattle.std.specs.List.{AllByRecursion as All}
+use Rattle.std.specs.List.{AllByRecursion}
 use Rattle.model.specs.Loop.{Loop, Operand, literal, variable, op, EachOperand, makes, Hardware, WellFormed}
 use Rattle.model.specs.Schedule.{Schedule, stages, IsSchedule, FewStages}
 use Rattle.model.specs.MemoryOrder.{Touches}
@@ -66,14 +66,14 @@ module _ {V : Type 0} (dom : Domain V) (ops : Loop) (hw : Hardware) (w : Schedul
     -- In no cycle y are more units of a class in use than it has, which is also what the machine counts; and every slot works for an iteration of the loop.
     pub units_suffice : (c u y : ℕ) → c ≤ cycles w (length ops) trips → in_use form u y c ≤ hw.units u
     pub units_counted : (c u y : ℕ) → c ≤ cycles w (length ops) trips → (before c).taken u y ≡ in_use form u y c
-    pub in_range : (c : ℕ) → c < cycles w (length ops) trips → All (InRange w.interval trips c) (form c)
+    pub in_range : (c : ℕ) → c < cycles w (length ops) trips → AllByRecursion (InRange w.interval trips c) (form c)
     -- How long it takes.
     pub no_cycles : trips ≡ 0 → cycles w (length ops) trips ≡ 0
     pub all_cycles : 0 < trips → cycles w (length ops) trips ≡ (trips + stages w (length ops) - 1) * w.interval
     -- A value entry changes only at a landing, a waiting entry only at an issue.
     pub values_change : (c r : ℕ) → c < cycles w (length ops) trips → lands c (before c) r ≡ false → (before (suc c)).values r ≡ (before c).values r
     pub waiting_changes : (c r : ℕ) → c < cycles w (length ops) trips →
-        All (λ slot. makes slot.operation ≡ true → slot.target ≢ r) (form c) → (before (suc c)).waiting r ≡ (before c).waiting r
+        AllByRecursion (λ slot. makes slot.operation ≡ true → slot.target ≢ r) (form c) → (before (suc c)).waiting r ≡ (before c).waiting r
     -- Before each cycle, and so at the end, the files hold the last landed and the last issued instances, or what was there.
     pub values_are : (c r : ℕ) → c ≤ cycles w (length ops) trips →
         (before c).values r ≡ value_entry hw w (plain dom ops trips memory).value (values r) (last_landed ops hw w trips (home_of ops place) r c)

@@ -1,6 +1,6 @@
 -- Schedules: what it is for times to be one.
 use Rattle.std.specs.Prelude.{ℕ, zero, suc, ◌+◌, ◌*◌, ◌/◌, ◌%◌, ◌<◌, ◌≤◌, max, cond, length, ◌==◌}
-use Rattle.std.specs.List.{AllByRecursion as All}
+use Rattle.std.specs.List.{AllByRecursion}
 use Rattle.model.specs.Loop.{Loop, Hardware, total}
 use Rattle.model.specs.Edges.{EdgeMet, edges}
 
@@ -35,7 +35,7 @@ RowsFit ops hw w = (u r : ℕ) → r < w.interval → row_uses ops hw w u r ≤ 
 -- The times meet every edge, and no row has more uses of a class than units.
 pub record IsSchedule (ops : Loop) (hw : Hardware) (w : Schedule) : Type 0 where
   pub positive : 0 < w.interval
-  pub edges_met : All (EdgeMet w.time w.interval) (edges ops hw)
+  pub edges_met : AllByRecursion (EdgeMet w.time w.interval) (edges ops hw)
   pub rows_fit : RowsFit ops hw w
 
 -- At most eight stages.

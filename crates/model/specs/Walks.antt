@@ -1,6 +1,6 @@
 -- Walks along edges, by the numbers of the edges.
 use Rattle.std.specs.Prelude.{◌≡◌, ℕ, ◌+◌, ◌<◌, List, [], ◌∷◌, length, ◌≢◌, slice_index_or}
-use Rattle.std.specs.List.{AllByRecursion as All}
+use Rattle.std.specs.List.{AllByRecursion}
 use Rattle.model.specs.Edges.{Edge}
 
 abbrev pub edge : List Edge → ℕ → Edge
@@ -25,7 +25,7 @@ froms es [] = []
 froms es (x ∷ xs) = (edge es x).from ∷ froms es xs
 
 abbrev pub Absent : ℕ → List ℕ → Type 0
-Absent u ys = All (λ y. u ≢ y) ys
+Absent u ys = AllByRecursion (λ y. u ≢ y) ys
 
 abbrev pub Distinct : List ℕ → Type 0
 Distinct [] = Unit {0}
@@ -40,8 +40,8 @@ Simple es xs = Distinct (froms es xs)
 
 -- The edges join the first n operations.
 abbrev pub Within : ℕ → List Edge → Type 0
-Within n es = All (λ e. (e.from < n) × (e.to < n)) es
+Within n es = AllByRecursion (λ e. (e.from < n) × (e.to < n)) es
 
 -- Edges of distance 0 lead from earlier operations to later ones.
 abbrev pub Forward : List Edge → Type 0
-Forward es = All (λ e. e.distance ≡ 0 → e.from < e.to) es
+Forward es = AllByRecursion (λ e. e.distance ≡ 0 → e.from < e.to) es

@@ -1,6 +1,6 @@
 -- What the value entries and the waiting entries hold.
 use Rattle.std.proofs.Common.{◌≡◌, ℕ, zero, suc, ◌+◌, ◌-◌, ◌*◌, ◌<◌, ◌≤◌, true, ◌&&◌, eqb, leb, ◌⊎◌, List, [], ◌∷◌, length, sym, refl, ap, ◌∙◌, ap₂, inl, inr, arith}
-use Rattle.std.specs.List.{AllByRecursion as All}
+use Rattle.std.specs.List.{AllByRecursion}
 use Rattle.std.proofs.lemmas.Bool.{cases_eq, cases_Bool, both_ways, eqb-true, leb-true, eq-eqb, ne_eqb, le-leb, and_parts, and_from}
 use Rattle.model.specs.Loop.{Loop, op, makes, Hardware}
 use Rattle.model.specs.Schedule.{Schedule}
@@ -63,7 +63,7 @@ module _ (ops : Loop) (w : Schedule) (trips : ℕ) (home : ℕ → ℕ → ℕ) 
 
 -- A waiting entry that no slot of the row has for its target stays.
 pub waiting_untouched : {V : Type 0} (dom : Domain V) (k c r : ℕ) (xs : List Slot) (seen m : Machine V) →
-    All (λ slot. makes slot.operation ≡ true → slot.target ≡ r → ⊥) xs → (issue_all dom k c xs seen m).waiting r ≡ m.waiting r
+    AllByRecursion (λ slot. makes slot.operation ≡ true → slot.target ≡ r → ⊥) xs → (issue_all dom k c xs seen m).waiting r ≡ m.waiting r
 unfolding issue_all issue
 waiting_untouched dom k c r [] seen m h = refl
 waiting_untouched dom k c r (x ∷ xs) seen m h = waiting_untouched dom k c r xs seen (issue dom k c x seen m) h.1 ∙

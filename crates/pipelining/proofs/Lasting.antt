@@ -1,6 +1,6 @@
 -- The lives of a schedule last long enough, and not too long; and a scheme's law by variables is one by operations.
 use Rattle.std.proofs.Common.{◌≡◌, ℕ, zero, suc, ◌+◌, ◌*◌, ◌<◌, ◌≤◌, true, length, get_or, refl, ◌∙◌, inl, inr, mul-le-mul_right, arith, length-append}
-use Rattle.std.specs.List.{AllByRecursion as All}
+use Rattle.std.specs.List.{AllByRecursion}
 use Rattle.std.proofs.ByRecursion.{All-append, All-get_or}
 use Rattle.std.proofs.lemmas.List.{get_or_append_left, get_or_push}
 use Rattle.std.proofs.lemmas.Bool.{cases_eq, cases_order, cases_Bool, eq-eqb, ne_eqb}
@@ -71,7 +71,7 @@ module _ (ops : Loop) (hw : Hardware) (w : Schedule) where
         let r = last_read_near j (length ops) (omega arith) in
         (t, omega arith, omega arith)
 
-    all_within : (n : ℕ) → n ≤ length ops → All (LifeWithin w.interval) (lives_of ops hw w n)
+    all_within : (n : ℕ) → n ≤ length ops → AllByRecursion (LifeWithin w.interval) (lives_of ops hw w n)
     unfolding lives_of
     all_within zero h = tt
     all_within (suc j) h = elim (cases_Bool (makes (op ops j))) [

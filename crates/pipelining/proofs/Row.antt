@@ -1,6 +1,6 @@
 -- What the slots of one cycle do, over the first j operations.
 use Rattle.std.proofs.Common.{◌≡◌, ℕ, zero, suc, ◌+◌, ◌<◌, ◌≤◌, true, false, ◌⊎◌, List, [], ◌∷◌, ◌++◌, sym, refl, ap, ◌∙◌, ap₂, inl, inr, arith}
-use Rattle.std.specs.List.{AllByRecursion as All}
+use Rattle.std.specs.List.{AllByRecursion}
 use Rattle.std.proofs.lemmas.List.{append-nil}
 use Rattle.std.proofs.ByRecursion.{All-append}
 use Rattle.std.proofs.lemmas.Bool.{cases_eq, cases_Bool, both_ways, eq-eqb, ne_eqb}
@@ -111,7 +111,7 @@ module _ {V : Type 0} (dom : Domain V) (ops : Loop) (hw : Hardware) (w : Schedul
 module _ (ops : Loop) (hw : Hardware) (w : Schedule) (trips : ℕ) (home : ℕ → ℕ → ℕ) (c : ℕ) where
   -- What holds of each slot that issues holds of all.
   pub each_slot : (P : Slot → Type 0) (n : ℕ) → ((q : ℕ) → q < n → issues w trips q c ≡ true → P (slot_of ops hw w home c q)) →
-      (j : ℕ) → j ≤ n → All P (slots ops hw w trips home c j)
+      (j : ℕ) → j ≤ n → AllByRecursion P (slots ops hw w trips home c j)
   unfolding slots
   each_slot P n holds zero h = tt
   each_slot P n holds (suc j) h = elim (cases_Bool (issues w trips j c)) [

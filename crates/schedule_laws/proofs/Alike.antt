@@ -1,6 +1,6 @@
 -- What is the same of schedules that are alike.
 use Rattle.std.proofs.Common.{◌≡◌, ℕ, zero, suc, ◌+◌, ◌-◌, ◌*◌, ◌/◌, ◌<◌, ◌≤◌, max, cond, ◌==◌, List, [], ◌∷◌, ◌++◌, length, sym, refl, subst, ap₂, arith}
-use Rattle.std.specs.List.{AllByRecursion as All}
+use Rattle.std.specs.List.{AllByRecursion}
 use Rattle.model.specs.declared.Edge.{Edge}
 use Rattle.model.specs.declared.Life.{Life}
 use Rattle.model.specs.Loop.{Loop, Operand, literal, variable, Operation, load, store, binary, move, op, makes, Hardware, WellFormed}
@@ -66,7 +66,7 @@ module _ (ops : Loop) (v w : Schedule) where
         listed : ℕ → List Life → Table
         listed k ls = record { interval = k; lives = ls }
 
-met_same : (n : ℕ) (v w : Schedule) → Alike n v w → (es : List Edge) → All (EdgeFits n) es → All (EdgeMet w.time w.interval) es → All (EdgeMet v.time v.interval) es
+met_same : (n : ℕ) (v w : Schedule) → Alike n v w → (es : List Edge) → AllByRecursion (EdgeFits n) es → AllByRecursion (EdgeMet w.time w.interval) es → AllByRecursion (EdgeMet v.time v.interval) es
 met_same n v w a [] f m = tt
 met_same n v w a (e ∷ es) f m = (
   subst (λ k. v.time e.from + e.delay ≤ v.time e.to + e.distance * k) (sym a.interval)

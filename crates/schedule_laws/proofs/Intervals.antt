@@ -1,7 +1,7 @@
 -- The plan, interval by interval.
 use Rattle.std.proofs.Common.{◌≡◌, ℕ, suc, ◌+◌, ◌-◌, ◌<◌, ◌≤◌, true, false, List, length, refl, ◌∙◌, add-one, arith}
 use mathlib.Core.Path.{fun_ext}
-use Rattle.std.specs.List.{AllByRecursion as All}
+use Rattle.std.specs.List.{AllByRecursion}
 use Rattle.std.proofs.lemmas.Bool.{le-leb, lt-leb}
 use Rattle.model.specs.Loop.{Loop, Hardware, total}
 use Rattle.model.specs.declared.Edge.{Edge}
@@ -31,7 +31,7 @@ steps_few : (es : List Edge) (hw : Hardware) (n k : ℕ) (o : Outcome) → n ≤
 steps_few es hw n k (found time taken) few h = omega (arith, h.3)
 steps_few es hw n k (failed taken) few h = omega arith
 
-pub search_steps : (es : List Edge) (hw : Hardware) (n : ℕ) (height : ℕ → ℕ) (k : ℕ) → n ≤ 32 → All (EdgeFits n) es → Roomy hw n k →
+pub search_steps : (es : List Edge) (hw : Hardware) (n : ℕ) (height : ℕ → ℕ) (k : ℕ) → n ≤ 32 → AllByRecursion (EdgeFits n) es → Roomy hw n k →
     steps_of (search es hw n height k) ≤ 192
 search_steps es hw n height k few fits roomy =
     steps_few es hw n k _ few (search_sound es hw n height k (all_within n es fits) (short_edges n es fits) roomy)

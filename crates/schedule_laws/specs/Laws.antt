@@ -1,6 +1,6 @@
 -- What the code of the plan rests on.
 use Rattle.std.specs.Prelude.{◌≡◌, ℕ, ◌≤◌, true, List, length}
-use Rattle.std.specs.List.{AllByRecursion as All}
+use Rattle.std.specs.List.{AllByRecursion}
 use Rattle.model.specs.declared.Edge.{Edge}
 use Rattle.model.specs.Loop.{Loop, Hardware}
 use Rattle.model.specs.MachineText.{Machine}
@@ -15,5 +15,5 @@ OnMachines = (m : Machine) (ops : Loop) → sound_machine m ≡ true → sound_l
 
 -- The heights at k are unique as a function.
 abbrev pub RoundsAreHeights : Type 0
-RoundsAreHeights = (es : List Edge) (hw : Hardware) (n classes lowest k : ℕ) → All (EdgeFits n) es → IsMinimum es hw n classes lowest → lowest ≤ k →
+RoundsAreHeights = (es : List Edge) (hw : Hardware) (n classes lowest k : ℕ) → AllByRecursion (EdgeFits n) es → IsMinimum es hw n classes lowest → lowest ≤ k →
     ((u : ℕ) → IsHeight es k u (rounds k es n u)) × ((height : ℕ → ℕ) → ((u : ℕ) → IsHeight es k u (height u)) → height ≡ rounds k es n)

@@ -1,7 +1,7 @@
 -- A search under way, as the program has it.
 use Rattle.std.proofs.Common.{◌≡◌, ℕ, ◌<◌, ◌≤◌, List, length, get_or, sym, ap, ◌∙◌, subst, ap₂, inl, inr, arith}
 use mathlib.Core.Path.{fun_ext}
-use Rattle.std.specs.List.{AllByRecursion as All}
+use Rattle.std.specs.List.{AllByRecursion}
 use Rattle.std.proofs.lemmas.List.{get_or_past}
 use Rattle.std.proofs.lemmas.Bool.{cases_lt}
 use Rattle.model.specs.declared.Edge.{Edge}
@@ -26,7 +26,7 @@ pub step_back : (es : List Edge) (us : List Timing) (n : ℕ) (height : ℕ → 
     s' ≡ step es (hw_of us t) n height t.interval s
 step_back es us n height t t' s s' same is = is ∙ ap₂ (λ u k. step es (hardware us u) n height k s) same.units same.interval
 
-pub weighed_now : (es : List Edge) (n k : ℕ) (t t' : ReservationTable) (w : Weights) → All (EdgeFits n) es → Alike t t' → k ≡ t.interval →
+pub weighed_now : (es : List Edge) (n k : ℕ) (t t' : ReservationTable) (w : Weights) → AllByRecursion (EdgeFits n) es → Alike t t' → k ≡ t.interval →
     ((p q : ℕ) → p < 32 → q < 32 → weights_of w p q ≡ weight k es p q) → Weighed es n t'.interval w
 weighed_now es n k t t' w fit same is are = record {
   fit = fit;

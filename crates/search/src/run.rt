@@ -1,6 +1,6 @@
 // The search at an interval.
 ghost use Rattle.std.specs.Prelude.{◌≡◌, ℕ, ◌+◌, ◌*◌, ◌<◌, ◌≤◌, true, false, length, Decides, slice_index};
-ghost use Rattle.std.specs.List.{AllByRecursion as All};
+ghost use Rattle.std.specs.List.{AllByRecursion};
 ghost use Rattle.model.specs.Limits.{hardware, EdgeFits, MachineFits};
 ghost use Rattle.model.specs.Search.{search};
 ghost use Rattle.search_laws.specs.Bounded.{Roomy};
@@ -25,7 +25,7 @@ fn run(
     table: ReservationTable,
 ) -> Outcome
     requires fitting { Fitting timings.now }
-    requires fit { All (EdgeFits (length timings.now)) edges.now }
+    requires fit { AllByRecursion (EdgeFits (length timings.now)) edges.now }
     requires alone { Roomy (hw_of timings.now table) (length timings.now) table.interval }
     requires empty { (u r : ℕ) → u < 8 → r < 256 → count table u r ≡ 0 }
     ensures { outcome result ≡ search edges.now (hw_of timings.now table) (length timings.now) (λ j. slice_index heights.now j) table.interval }

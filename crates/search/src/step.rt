@@ -1,6 +1,6 @@
 // The steps of a search.
 ghost use Rattle.std.specs.Prelude.{◌≡◌, ℕ, ◌+◌, ◌*◌, ◌<◌, ◌≤◌, true, false, List, length, Some, None, slice_index};
-ghost use Rattle.std.specs.List.{AllByRecursion as All};
+ghost use Rattle.std.specs.List.{AllByRecursion};
 ghost use Rattle.model.specs.Limits.{EdgeFits};
 ghost use Rattle.model.specs.declared.Edge.{Edge};
 ghost use Rattle.model.specs.Search.{placed, step, complete};

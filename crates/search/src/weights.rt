@@ -1,6 +1,6 @@
 // The edges between each two operations as one number, so that a step need not go through all edges.
 ghost use Rattle.std.specs.Prelude.{◌≡◌, ℕ, ◌+◌, ◌-◌, ◌*◌, ◌<◌, ◌≤◌, length};
-ghost use Rattle.std.specs.List.{AllByRecursion as All};
+ghost use Rattle.std.specs.List.{AllByRecursion};
 ghost use Rattle.model.specs.Limits.{EdgeFits};
 ghost use Rattle.search_laws.specs.Weights.{lifted, weight};
 ghost use Rattle.search.specs.Views.{weights_of};
@@ -31,7 +31,7 @@ fn weight_of(edge: &Edge, interval: usize) -> u16
 
 impl Weights {
     pub(crate) fn new(edges: &[Edge], interval: usize) -> Weights
-        requires fit { All (EdgeFits 32) edges.now }
+        requires fit { AllByRecursion (EdgeFits 32) edges.now }
         requires interval { interval ≤ 256 }
         ensures { (p q : ℕ) → p < 32 → q < 32 → weights_of result p q ≡ weight interval edges.now p q }
     {

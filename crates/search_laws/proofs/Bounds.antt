@@ -1,6 +1,6 @@
 -- Times stay bounded.
 use Rattle.std.proofs.Common.{◌≡◌, ℕ, zero, suc, ◌+◌, ◌<◌, ◌≤◌, Bool, true, false, cond, not, ◌&&◌, eqb, ltb, List, [], ◌∷◌, is_some, Some, None, Option, unwrap_or, inl, inr, arith}
-use Rattle.std.specs.List.{AllByRecursion as All}
+use Rattle.std.specs.List.{AllByRecursion}
 use Rattle.std.proofs.lemmas.Bool.{cases_lt, cases_eq, cases_Bool, lt-ltb, le-ltb, both_ways}
 use Rattle.model.specs.Loop.{Hardware}
 use Rattle.model.specs.declared.Edge.{Edge}
@@ -40,7 +40,7 @@ chosen_under : (x : Bool) (a c : ℕ) → a < c → cond x a 0 < c
 chosen_under true a c h = h
 chosen_under false a c h = omega arith
 
-pub early_under : (k b : ℕ) (time : Times) (j : ℕ) (es : List Edge) → All (λ e. e.delay ≤ 8) es → ((q : ℕ) → Under b (time q)) → early k time j es < b + 8
+pub early_under : (k b : ℕ) (time : Times) (j : ℕ) (es : List Edge) → AllByRecursion (λ e. e.delay ≤ 8) es → ((q : ℕ) → Under b (time q)) → early k time j es < b + 8
 unfolding early
 early_under k b time j [] short h = omega arith
 early_under k b time j (e ∷ es) short h =

@@ -1,6 +1,6 @@
 -- Edges between placed operations stay met.
 use Rattle.std.proofs.Common.{◌≡◌, ℕ, Bool, true, false, cond, ◌&&◌, ◌||◌, eqb, List, [], ◌∷◌, Some, None, Option, refl, inl, inr}
-use Rattle.std.specs.List.{AllByRecursion as All}
+use Rattle.std.specs.List.{AllByRecursion}
 use Rattle.std.proofs.ByRecursion.{All-weaker}
 use Rattle.std.proofs.lemmas.Bool.{cases_eq, cases_Bool, eq-eqb, ne_eqb, or_left, or_right, and_from, both_ways}
 use Rattle.model.specs.declared.Edge.{Edge}
@@ -14,13 +14,13 @@ late_none k e (Some s) = refl
 abbrev Torn_by : ℕ → Times → ℕ → ℕ → Edge → Bool
 Torn_by k time j q e = ((eqb e.from j && eqb e.to q) || (eqb e.to j && eqb e.from q)) && late k e (time e.from) (time e.to)
 
-torn_all : (k : ℕ) (time : Times) (j : ℕ) (es : List Edge) → All (λ e. (q : ℕ) → Torn_by k time j q e ≡ true → torn k time j es q ≡ true) es
+torn_all : (k : ℕ) (time : Times) (j : ℕ) (es : List Edge) → AllByRecursion (λ e. (q : ℕ) → Torn_by k time j q e ≡ true → torn k time j es q ≡ true) es
 unfolding torn
 torn_all k time j [] = tt
 torn_all k time j (e ∷ es) = ((λ q h. or_left _ _ h), All-weaker _ _ (λ x f q h. or_right _ _ (f q h)) es (torn_all k time j es))
 
 unfoldable pub Held : ℕ → Times → List Edge → Type 0
-Held k time es = All (λ e. late k e (time e.from) (time e.to) ≡ false) es
+Held k time es = AllByRecursion (λ e. late k e (time e.from) (time e.to) ≡ false) es
 
 late_less : (k : ℕ) (e : Edge) (x y : Bool) (a b : Option ℕ) → late k e a b ≡ false → late k e (cond x None a) (cond y None b) ≡ false
 late_less k e true y a b h = refl
@@ -50,7 +50,7 @@ module _ (k : ℕ) (time : Times) (crowd : ℕ → Bool) (j t : ℕ) where
     ]
   ]
 
-  each : (gone : ℕ → Bool) (es : List Edge) → All (λ e. (q : ℕ) → Torn_by k then j q e ≡ true → gone q ≡ true) es → Held k time es → Held k (without gone then) es
+  each : (gone : ℕ → Bool) (es : List Edge) → AllByRecursion (λ e. (q : ℕ) → Torn_by k then j q e ≡ true → gone q ≡ true) es → Held k time es → Held k (without gone then) es
   unfolding Held
   each gone [] h old = tt
   each gone (e ∷ es) h old = (one gone e h.0 old.0, each gone es h.1 old.1)

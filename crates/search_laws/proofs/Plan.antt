@@ -2,7 +2,7 @@
 use Rattle.std.proofs.Common.{◌≡◌, ℕ, zero, suc, ◌+◌, ◌-◌, ◌*◌, ◌<◌, ◌≤◌, true, false, cond, eqb, List, length, sym, refl, ap, ◌∙◌, subst, inl, inr, mul-le-mul_right, mod-lt, suc-mul, div-add-mod', arith}
 use mathlib.Core.Path.{fun_ext}
 use native.Mathlib.Nat.{div-eq_of_lt}
-use Rattle.std.specs.List.{AllByRecursion as All}
+use Rattle.std.specs.List.{AllByRecursion}
 use Rattle.std.proofs.ByRecursion.{All-weaker}
 use Rattle.std.proofs.lemmas.Bool.{cases_eq, cases_Bool, cases_lt, eq-eqb, and_parts, leb-true, leb-false, false≢true}
 use Rattle.std.proofs.lemmas.Nat.{mul-le}
@@ -33,7 +33,7 @@ use Rattle.pipelining.proofs.Theorem.{lives_last}
 use Rattle.search_laws.specs.Bounded.{Short, Roomy, Sound}
 use Rattle.search_laws.proofs.Sound.{search_sound, in_sixteen}
 
-pub short_edges : (n : ℕ) (es : List Edge) → All (EdgeFits n) es → Short es
+pub short_edges : (n : ℕ) (es : List Edge) → AllByRecursion (EdgeFits n) es → Short es
 short_edges n es h = All-weaker _ _ (λ e f. f.delay) es h
 
 part_sum : (f : ℕ → ℕ) (n j : ℕ) → j < n → f j ≤ total f n

@@ -1,6 +1,6 @@
 -- What the search finds is a schedule.
 use Rattle.std.proofs.Common.{◌≡◌, ℕ, zero, suc, ◌+◌, ◌*◌, ◌<◌, ◌≤◌, Bool, true, false, cond, eqb, List, [], ◌∷◌, is_some, Some, None, Option, unwrap_or, refl, subst, inl, inr, add-mul, arith}
-use Rattle.std.specs.List.{AllByRecursion as All}
+use Rattle.std.specs.List.{AllByRecursion}
 use Rattle.std.proofs.lemmas.Bool.{cases_eq, cases_Bool, and_parts, ltb-false, false≢true}
 use Rattle.std.proofs.lemmas.Nat.{mul-le}
 use Rattle.model.specs.Loop.{Hardware, total}
@@ -63,7 +63,7 @@ module _ (es : List Edge) (hw : Hardware) (n : ℕ) (height : ℕ → ℕ) (k : 
     one_met : (e : Edge) → e.from < n → e.to < n → late k e (s.time e.from) (s.time e.to) ≡ false → EdgeMet (times_of s) k e
     one_met e f t h = ltb-false _ _ (rw (time_is e.from f, time_is e.to t) at h)
 
-    all_met : (es : List Edge) → Within n es → Held k s.time es → All (EdgeMet (times_of s) k) es
+    all_met : (es : List Edge) → Within n es → Held k s.time es → AllByRecursion (EdgeMet (times_of s) k) es
     unfolding Held
     all_met [] j h = tt
     all_met (e ∷ es) j h = (one_met e j.0.0 j.0.1 h.0, all_met es j.1 h.1)

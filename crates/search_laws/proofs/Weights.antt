@@ -1,6 +1,6 @@
 -- Early times and torn edges by weights.
 use Rattle.std.proofs.Common.{◌≡◌, ℕ, zero, suc, ◌+◌, ◌-◌, ◌*◌, ◌<◌, ◌≤◌, max, Bool, true, false, cond, not, ◌&&◌, ◌||◌, eqb, ltb, List, [], ◌∷◌, ◌++◌, length, get_or, take, Some, None, Option, sym, refl, ap, ◌∙◌, ap₂, inl, inr, arith}
-use Rattle.std.specs.List.{AllByRecursion as All}
+use Rattle.std.specs.List.{AllByRecursion}
 use Rattle.std.proofs.lemmas.List.{take_more}
 use Rattle.std.proofs.lemmas.Bool.{cases_eq, cases_lt, cases_Bool, eq-eqb, ne_eqb, lt-ltb, le-ltb}
 use Rattle.model.specs.declared.Edge.{Edge}
@@ -97,13 +97,13 @@ module _ (k : ℕ) (time : Times) (j : ℕ) (small : k ≤ 256) where
   unfolding weight
   step_weights e es q = ap (cond (eqb q j) 0) (asked_max (weight k es q j) _ (time q)) ∙ cond_max (eqb q j) _ _
 
-  peak_early : (es : List Edge) (n : ℕ) → All (EdgeFits n) es → peak (with_weights es) n ≡ early k time j es
+  peak_early : (es : List Edge) (n : ℕ) → AllByRecursion (EdgeFits n) es → peak (with_weights es) n ≡ early k time j es
   unfolding early
   peak_early [] n fits = peak_zero n
   peak_early (e ∷ es) n fits =
       omega (arith, peak_max (with_weights (e ∷ es)) (with_weights es) (single e) (step_weights e es) n, peak_early es n fits.1, peak_one e fits.0.distance n fits.0.from)
 
-  pub early_weights : (es : List Edge) (n : ℕ) → All (EdgeFits n) es → early_by (weight k es) time j n ≡ early k time j es
+  pub early_weights : (es : List Edge) (n : ℕ) → AllByRecursion (EdgeFits n) es → early_by (weight k es) time j n ≡ early k time j es
   early_weights es n fits = by_peak es n ∙ peak_early es n fits
 
 -- EDGES THAT ARE NOT MET
@@ -213,7 +213,7 @@ module _ (k : ℕ) (small : k ≤ 256) where
   middle false false false true = refl
   middle false false false false = refl
 
-  pub torn_weights : (time : Times) (j : ℕ) (n : ℕ) (es : List Edge) → All (EdgeFits n) es → (q : ℕ) → torn_by (weight k es) time j q ≡ torn k time j es q
+  pub torn_weights : (time : Times) (j : ℕ) (n : ℕ) (es : List Edge) → AllByRecursion (EdgeFits n) es → (q : ℕ) → torn_by (weight k es) time j q ≡ torn k time j es q
   unfolding torn weight
   torn_weights time j n [] fits q = refl
   torn_weights time j n (e ∷ es) fits q =

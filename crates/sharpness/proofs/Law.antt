@@ -1,7 +1,7 @@
 -- What holds of the second case whatever the registers are, and what is left to their values.
 use Rattle.std.proofs.Common.{◌≡◌, ℕ, zero, suc, ◌<◌, List, [], ◌∷◌, get_or, sym, refl, ap, ◌∙◌, inl, inr, arith}
 use Rattle.std.proofs.lemmas.Bool.Decides.{nat_tests}
-use Rattle.std.specs.List.{AllByRecursion as All}
+use Rattle.std.specs.List.{AllByRecursion}
 use Rattle.model.specs.Loop.{op, EachOperand, Named, WellFormed}
 use Rattle.model.specs.Edges.{EdgeMet, meets, joins, edges}
 use Rattle.model.specs.Schedule.{RowsFit, FewStages}
@@ -29,7 +29,7 @@ well_formed = record {
   units = λ j h. (omega arith, omega arith);
 }
 
-edges_met : All (EdgeMet (timed 4 times).time 4) (edges loop hardware)
+edges_met : AllByRecursion (EdgeMet (timed 4 times).time 4) (edges loop hardware)
 unfolding edges joins meets op
 edges_met = (omega arith, (omega arith, (omega arith, tt)))
 

@@ -1,6 +1,6 @@
 -- What holds of the third case whatever the times are, and what is left to their values.
 use Rattle.std.proofs.Common.{◌≡◌, ℕ, zero, suc, ◌+◌, ◌/◌, ◌%◌, ◌<◌, ◌≤◌, List, [], ◌∷◌, get_or, sym, refl, ap, ◌∙◌, inl, inr, arith}
-use Rattle.std.specs.List.{AllByRecursion as All}
+use Rattle.std.specs.List.{AllByRecursion}
 use Rattle.std.proofs.lemmas.Bool.{cases_order}
 use Rattle.model.specs.Loop.{op, EachOperand, Named, WellFormed}
 use Rattle.model.specs.Edges.{EdgeMet, meets, joins, edges}
@@ -39,7 +39,7 @@ same_turn : (i m : ℕ) → i % 9 ≡ m % 9 → i ≤ m + 8 → m ≤ i + 8 → 
 same_turn i m e h k = elim (cases_order (i / 9) (m / 9)) [ inl q ↦ omega arith | inr (inl l) ↦ omega arith | inr (inr g) ↦ omega arith ]
 
 module _ (times : List ℕ) where
-  edges_met : get_or times 0 0 + 1 ≤ get_or times 1 0 → All (EdgeMet (timed 1 times).time 1) (edges loop hardware)
+  edges_met : get_or times 0 0 + 1 ≤ get_or times 1 0 → AllByRecursion (EdgeMet (timed 1 times).time 1) (edges loop hardware)
   unfolding edges joins meets op
   edges_met h = (omega arith, tt)
 

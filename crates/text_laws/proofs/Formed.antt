@@ -1,6 +1,6 @@
 -- A sound loop on a sound machine is well formed. Assumes nothing.
 use Rattle.std.proofs.Common.{◌≡◌, ℕ, zero, suc, ◌<◌, ◌≤◌, true, ◌&&◌, ◌||◌, eqb, ltb, leb, ◌⊎◌, List, [], ◌∷◌, map, length, get_or, pos, Some, None, count_by, Option, sym, subst, ⊎_elim, arith}
-use Rattle.std.specs.List.{AllByRecursion as All}
+use Rattle.std.specs.List.{AllByRecursion}
 use Rattle.std.proofs.lemmas.List.{get_or-map, length-map}
 use Rattle.model.specs.Limits.{timing, TimingFits, MachineFits}
 use Rattle.std.proofs.lemmas.Bool.{ltb-true, leb-true, eqb-true, and_parts, or_cases, cases_order}
@@ -105,13 +105,13 @@ well_formed m ops e s =
     }
 
 -- the machine is one that the minimum and the search take
-all_timed : (m : Machine) → sound_machine m ≡ true → (ops : Loop) → All (TimingFits (length (units_of m))) (timings_of m ops)
+all_timed : (m : Machine) → sound_machine m ≡ true → (ops : Loop) → AllByRecursion (TimingFits (length (units_of m))) (timings_of m ops)
 all_timed m e [] = tt
 all_timed m e (o ∷ ops) =
     let t = timed m e (code_of o) in
     (record { class = subst (λ n. (timing_of m (code_of o)).class < n) (sym (length-map m.classes (λ c. c.count))) t.known; some = t.busy.0; short = omega (arith, t.busy.1, t.latency.1) }, all_timed m e ops)
 
-all_counted : (cs : List Class) → every counted cs ≡ true → All (λ c. (1 ≤ c) × (c ≤ 8)) (map (λ c. c.count) cs)
+all_counted : (cs : List Class) → every counted cs ≡ true → AllByRecursion (λ c. (1 ≤ c) × (c ≤ 8)) (map (λ c. c.count) cs)
 all_counted [] e = tt
 all_counted (c ∷ cs) e = let a = and_parts (counted c) (every counted cs) e in (between_parts 1 8 c.count a.0, all_counted cs a.1)
 

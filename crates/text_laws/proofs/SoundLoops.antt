@@ -1,6 +1,6 @@
 -- An accepted loop text gives a sound loop. Assumes nothing.
 use Rattle.std.proofs.Common.{◌≡◌, ℕ, zero, suc, ◌+◌, ◌<◌, ◌≤◌, Bool, true, cond, ◌&&◌, ◌||◌, ltb, leb, List, [], ◌∷◌, ◌++◌, map, length, get_or, Some, None, Ok, Err, fold, count_by, Option, Result, refl, ap, ◌∙◌, subst, arith}
-use Rattle.std.specs.List.{flat_map, AllByRecursion as All}
+use Rattle.std.specs.List.{flat_map, AllByRecursion}
 use Rattle.std.proofs.ByRecursion.{All-get_or}
 use Rattle.std.proofs.lemmas.List.{length-map, get_or-map}
 use Rattle.std.proofs.lemmas.Bool.{lt-ltb, le-leb, leb-true, and_from, or_left, or_right}
@@ -18,19 +18,19 @@ use Rattle.text_laws.proofs.Statements.{ranging, FineUse, Fine, Half, keeps}
 abbrev Known : List Statement → Use → Type 0
 Known ss u = known ss u.line u.operand ≡ true
 
-all_known : (ss : List Statement) (us : List Use) → each (map (known_use ss) us) ≡ good → All (Known ss) us
+all_known : (ss : List Statement) (us : List Use) → each (map (known_use ss) us) ≡ good → AllByRecursion (Known ss) us
 all_known ss [] e = tt
 all_known ss (u ∷ us) e = let a = each_yes (known_use ss u) (map (known_use ss) us) e in (a.0, all_known ss us a.1)
 
-all_parts : {X : Type 0} (P : X → Type 0) (xs ys : List X) → All P (xs ++ ys) → All P xs × All P ys
+all_parts : {X : Type 0} (P : X → Type 0) (xs ys : List X) → AllByRecursion P (xs ++ ys) → AllByRecursion P xs × AllByRecursion P ys
 all_parts P [] ys h = (tt, h)
 all_parts P (x ∷ xs) ys h = let a = all_parts P xs ys h.1 in ((h.0, a.0), a.1)
 
-all_joined : {X Y : Type 0} (P : Y → Type 0) (f : X → List Y) (xs : List X) → All P (flat_map f xs) → All (λ x. All P (f x)) xs
+all_joined : {X Y : Type 0} (P : Y → Type 0) (f : X → List Y) (xs : List X) → AllByRecursion P (flat_map f xs) → AllByRecursion (λ x. AllByRecursion P (f x)) xs
 all_joined P f [] h = tt
 all_joined P f (x ∷ xs) h = let a = all_parts P (f x) (flat_map f xs) h in (a.0, all_joined P f xs a.1)
 
-each_operand : {A : Type 0} (P : A → Type 0) (o : Operation A) → All P (operands o) → EachOperand P o
+each_operand : {A : Type 0} (P : A → Type 0) (o : Operation A) → AllByRecursion P (operands o) → EachOperand P o
 each_operand P (load stride offset) h = tt
 each_operand P (store a stride offset) h = h.0
 each_operand P (binary code a b) h = (h.0, h.1.0)
@@ -61,7 +61,7 @@ named w (Some v) e = refl
 abbrev no_statement : Statement
 no_statement = record { line = 0; defines = None; operation = load 0 0 }
 
-module _ (ss : List Statement) (high : ℕ) (rising : Rising 0 high ss) (fine : All Fine ss) (all : All (λ s. All (Known ss) (operands s.operation)) ss) where
+module _ (ss : List Statement) (high : ℕ) (rising : Rising 0 high ss) (fine : AllByRecursion Fine ss) (all : AllByRecursion (λ s. AllByRecursion (Known ss) (operands s.operation)) ss) where
   abbrev at : ℕ → Statement
   at q = get_or ss q no_statement
 
@@ -102,7 +102,7 @@ module _ (ss : List Statement) (high : ℕ) (rising : Rising 0 high ss) (fine : 
     sound_op : sound_operation (loop_of ss) q (op (loop_of ss) q) ≡ true
     sound_op =
         let s = All-get_or Fine ss q no_statement h fine in
-        let k = All-get_or (λ s. All (Known ss) (operands s.operation)) ss q no_statement h all in
+        let k = All-get_or (λ s. AllByRecursion (Known ss) (operands s.operation)) ss q no_statement h all in
         ap (sound_operation (loop_of ss) q) (op_at q h) ∙ sound_at (at q).operation s.uses (each_operand (Known ss) (at q).operation k) s.cell
 
   is_sound_below : (n : ℕ) → n ≤ length ss → sound_below (loop_of ss) n ≡ true

@@ -1,6 +1,6 @@
 -- What the statements of a loop text are known by, once the questions of its lines are answered yes. Assumes nothing.
 use Rattle.std.proofs.Common.{◌≡◌, ℕ, zero, suc, ◌+◌, ◌≤◌, Bool, true, false, cond, ◌&&◌, leb, List, [], ◌∷◌, ◌++◌, length, drop, pos, neg_ℤ, Some, None, Option, refl, arith}
-use Rattle.std.specs.List.{AllByRecursion as All}
+use Rattle.std.specs.List.{AllByRecursion}
 use Rattle.std.proofs.ByRecursion.{All-push}
 use Rattle.std.proofs.lemmas.List.{append-nil}
 use Rattle.std.proofs.lemmas.Bool.{le-leb, leb-true, and_parts, and_from}
@@ -17,18 +17,18 @@ use Rattle.text_laws.proofs.Asked.{line_yes, each_yes}
 use Rattle.text_laws.proofs.Definers.{Rising, rising_more, rising_push}
 
 -- a token stands on its line
-all_on : (bs : List ℕ) (n at : ℕ) (fresh : Bool) → All (λ t. t.line ≡ n) (lexemes n at fresh bs)
+all_on : (bs : List ℕ) (n at : ℕ) (fresh : Bool) → AllByRecursion (λ t. t.line ≡ n) (lexemes n at fresh bs)
 all_on [] n at fresh = tt
 all_on (b ∷ bs) n at fresh = go (all_on bs n (at + 1)) (space b) fresh
   where
-    go : ((f : Bool) → All (λ t. t.line ≡ n) (lexemes n (at + 1) f bs)) → (x f : Bool)
-        → All (λ t. t.line ≡ n) (cond x (lexemes n (at + 1) true bs) (cond f (run n at (b ∷ bs) ∷ lexemes n (at + 1) false bs) (lexemes n (at + 1) false bs)))
+    go : ((f : Bool) → AllByRecursion (λ t. t.line ≡ n) (lexemes n (at + 1) f bs)) → (x f : Bool)
+        → AllByRecursion (λ t. t.line ≡ n) (cond x (lexemes n (at + 1) true bs) (cond f (run n at (b ∷ bs) ∷ lexemes n (at + 1) false bs) (lexemes n (at + 1) false bs)))
     go ih true f = ih true
     go ih false true = (refl, ih false)
     go ih false false = ih false
 
 -- a fine operand is one of the line's tokens
-on_line : (ts : List Lexeme) (n i : ℕ) → All (λ t. t.line ≡ n) ts → operand_fine (tok ts i).kind (tok ts i).bytes ≡ true → (tok ts i).line ≡ n
+on_line : (ts : List Lexeme) (n i : ℕ) → AllByRecursion (λ t. t.line ≡ n) ts → operand_fine (tok ts i).kind (tok ts i).bytes ≡ true → (tok ts i).line ≡ n
 on_line [] n i a e = let z : ◌≡◌ {A = ℕ} 0 1 = cc in absurd (omega arith)
 on_line (t ∷ ts) n zero a e = a.0
 on_line (t ∷ ts) n (suc i) a e = on_line ts n i a.1 e
@@ -62,7 +62,7 @@ pub record Fine (s : Statement) : Type 0 where
   pub uses : EachOperand (FineUse s.line) s.operation
   pub cell : sound_cell (stride_of s.operation) (offset_of s.operation) ≡ true
 
-module _ (n : ℕ) (ts : List Lexeme) (on : All (λ t. t.line ≡ n) ts) where
+module _ (n : ℕ) (ts : List Lexeme) (on : AllByRecursion (λ t. t.line ≡ n) ts) where
   use_fine : (i : ℕ) → operand_fine (tok ts i).kind (tok ts i).bytes ≡ true → FineUse n (use_at ts i)
   use_fine i e = (on_line ts n i on e, written (tok ts i).kind (tok ts i).bytes e)
 
@@ -90,11 +90,11 @@ module _ (n : ℕ) (ts : List Lexeme) (on : All (λ t. t.line ≡ n) ts) where
 -- the statements of the lines before line n
 pub record Half (n : ℕ) (ss : List Statement) : Type 0 where
   pub rising : Rising 0 n ss
-  pub fine : All Fine ss
+  pub fine : AllByRecursion Fine ss
   pub few : length ss ≤ 32
   pub memory : memory_operations ss ≤ 16
 
-keep_form : (n : ℕ) (ss : List Statement) (ts : List Lexeme) → All (λ t. t.line ≡ n) ts → Half n ss → (f : Option Code) → ranged_by f ts ≡ good
+keep_form : (n : ℕ) (ss : List Statement) (ts : List Lexeme) → AllByRecursion (λ t. t.line ≡ n) ts → Half n ss → (f : Option Code) → ranged_by f ts ≡ good
     → length (ss ++ statement_by n f ts) ≤ 32 → memory_operations (ss ++ statement_by n f ts) ≤ 16 → Half (n + 1) (ss ++ statement_by n f ts)
 keep_form n ss ts on h None r few memory = rw append-nil (record { rising = rising_more ss 0 n h.rising; fine = h.fine; few = h.few; memory = h.memory })
 keep_form n ss ts on h (Some c) r few memory =

@@ -1,6 +1,6 @@
 -- The running sum: the theorem's hypotheses, and the runs computed.
 use Rattle.std.proofs.Common.{◌≡◌, ℕ, zero, suc, ◌<◌, ◌≤◌, sym, refl, subst, inl, inr, arith}
-use Rattle.std.specs.List.{AllByRecursion as All}
+use Rattle.std.specs.List.{AllByRecursion}
 use Rattle.std.proofs.lemmas.Bool.Decides.{nat_tests}
 use Rattle.model.specs.Loop.{op, EachOperand, Named}
 use Rattle.model.specs.Edges.{EdgeMet, meets, joins, edges}
@@ -32,7 +32,7 @@ busies : (j : ℕ) → j < 3 → (1 ≤ 1) × (1 ≤ one_of_each.latency j)
 busies zero h = (omega arith, omega arith)
 busies (suc j) h = (omega arith, omega arith)
 
-edges_met : All (EdgeMet packed.time 2) (edges sums one_of_each)
+edges_met : AllByRecursion (EdgeMet packed.time 2) (edges sums one_of_each)
 unfolding edges joins meets op
 edges_met = (omega arith, (omega arith, (omega arith, tt)))
 

@@ -1,5 +1,5 @@
 use Rattle.std.proofs.Common.{sym, refl, ◌∙◌, subst, arith}
-use Rattle.std.specs.List.{AllByRecursion as All}
+use Rattle.std.specs.List.{AllByRecursion}
 use Rattle.std.proofs.lemmas.List.{take_all}
 use Rattle.std.proofs.ByRecursion.{All-get_or, All-more}
 use Rattle.std.proofs.lemmas.Bool.{both_ways}
@@ -21,7 +21,7 @@ returns c = (
     some = omega arith;
     few = omega arith;
     short = omega arith;
-    each = subst (λ l. All (EdgeFits c.args.count) l) (take_all _ c.args.edges.now c.loop-e-test.false) c.loop-e.invariant;
+    each = subst (λ l. AllByRecursion (EdgeFits c.args.count) l) (take_all _ c.args.edges.now c.loop-e-test.false) c.loop-e.invariant;
   }),
   λ _. refl,
 )

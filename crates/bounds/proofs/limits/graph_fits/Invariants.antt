@@ -1,7 +1,7 @@
 use Rattle.std.proofs.Common.{take}
-use Rattle.std.specs.List.{AllByRecursion as All}
+use Rattle.std.specs.List.{AllByRecursion}
 use Rattle.model.specs.Limits.{EdgeFits}
 use Rattle.bounds.proofs.limits.graph_fits.Given as goal
 
 abbrev pub invariant-loop-e : goal.invariant-loop-e
-invariant-loop-e l = All (EdgeFits l.count) (take l.e-index l.edges)
+invariant-loop-e l = AllByRecursion (EdgeFits l.count) (take l.e-index l.edges)

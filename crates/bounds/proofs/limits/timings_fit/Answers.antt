@@ -1,5 +1,5 @@
 use Rattle.std.proofs.Common.{sym, refl, ◌∙◌, subst}
-use Rattle.std.specs.List.{AllByRecursion as All}
+use Rattle.std.specs.List.{AllByRecursion}
 use Rattle.std.proofs.lemmas.List.{take_all}
 use Rattle.std.proofs.ByRecursion.{All-get_or, All-more}
 use Rattle.std.proofs.lemmas.Bool.{both_ways}
@@ -17,4 +17,4 @@ loop-timing-preserved c =
     All-more (TimingFits c.args.classes) c.args.timings.now c.loop-timing.timing-index _ c.loop-timing-test.true c.loop-timing.invariant (c.timing_fits.ensures.0 c.if-not-timing_fits.false)
 
 pub returns : goal.returns
-returns c = ((λ _. subst (λ l. All (TimingFits c.args.classes) l) (take_all _ c.args.timings.now c.loop-timing-test.false) c.loop-timing.invariant), λ _. refl)
+returns c = ((λ _. subst (λ l. AllByRecursion (TimingFits c.args.classes) l) (take_all _ c.args.timings.now c.loop-timing-test.false) c.loop-timing.invariant), λ _. refl)

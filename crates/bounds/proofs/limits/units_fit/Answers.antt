@@ -1,5 +1,5 @@
 use Rattle.std.proofs.Common.{◌≤◌, refl, subst, arith}
-use Rattle.std.specs.List.{AllByRecursion as All}
+use Rattle.std.specs.List.{AllByRecursion}
 use Rattle.std.proofs.lemmas.List.{take_all}
 use Rattle.std.proofs.ByRecursion.{All-get_or, All-more}
 use Rattle.std.proofs.lemmas.Bool.{both_ways}
@@ -15,4 +15,4 @@ pub loop-count-preserved : goal.loop-count-preserved
 loop-count-preserved c = All-more (λ x. (1 ≤ x) × (x ≤ 8)) c.args.units.now c.loop-count.count-index 0 c.loop-count-test.true c.loop-count.invariant (omega arith, omega arith)
 
 pub returns : goal.returns
-returns c = ((λ _. subst (λ l. All (λ x. (1 ≤ x) × (x ≤ 8)) l) (take_all _ c.args.units.now c.loop-count-test.false) c.loop-count.invariant), λ _. refl)
+returns c = ((λ _. subst (λ l. AllByRecursion (λ x. (1 ≤ x) × (x ≤ 8)) l) (take_all _ c.args.units.now c.loop-count-test.false) c.loop-count.invariant), λ _. refl)
