@@ -25,6 +25,9 @@ use texts::fault::TextFault;
 use texts::machine_text::wrong_name;
 use texts::name::Name;
 
+// The most loads and stores of a loop.
+const MOST_IN_MEMORY: usize = 16;
+
 // A sum, a difference or a product.
 fn binary_of(
     operator: Operator,
@@ -162,7 +165,7 @@ fn push(m: &mut Statements, s: Statement) -> Result<(), TextFault>
         return Err(TextFault::ManyOperations { line: s.line });
     }
     let touches = m.in_memory + usize::from(s.action.in_memory());
-    if touches > 16 {
+    if touches > MOST_IN_MEMORY {
         return Err(TextFault::ManyOperations { line: s.line });
     }
     m.items[n] = s;

@@ -15,11 +15,11 @@ overflow_add-touches c =
     let r = room m.items m.count m.in_memory c.from.result c.in_memory.result c.args.s (omega arith) m.counted c.from.ensures c.in_memory.ensures in
     omega (arith, r.0, r.1)
 
-pub returns-then-touches-gt16 : goal.returns-then-touches-gt16
-returns-then-touches-gt16 c =
+pub returns-then-touches-gt-MOST_IN_MEMORY : goal.returns-then-touches-gt-MOST_IN_MEMORY
+returns-then-touches-gt-MOST_IN_MEMORY c =
     let m = c.args.m.now in
     let long : length m.items ≡ 32 = omega arith in
-    too_many m.items m.count m.in_memory c.from.result c.in_memory.result c.args.s (omega arith) m.counted c.from.ensures c.in_memory.ensures c.if-n-ge32.false c.if-touches-gt16.true
+    too_many m.items m.count m.in_memory c.from.result c.in_memory.result c.args.s (omega arith) m.counted c.from.ensures c.in_memory.ensures c.if-n-ge32.false c.if-touches-gt-MOST_IN_MEMORY.true
 
 pub invariant_of-m : goal.invariant_of-m
 invariant_of-m c =
@@ -29,7 +29,7 @@ invariant_of-m c =
     record {
       whole = length-set m.items m.count c.args.s ∙ long;
       few = omega (arith, c.if-n-ge32.false);
-      light = omega (arith, c.if-touches-gt16.false);
+      light = omega (arith, c.if-touches-gt-MOST_IN_MEMORY.false);
       counted = counted;
     }
 
@@ -37,4 +37,4 @@ pub returns : goal.returns
 returns c =
     let m = c.args.m.now in
     let long : length m.items ≡ 32 = omega arith in
-    pushed m.items m.count m.in_memory c.from.result c.in_memory.result c.args.s (omega arith) m.counted c.from.ensures c.in_memory.ensures c.if-n-ge32.false (omega (arith, c.if-n-ge32.false)) c.if-touches-gt16.false
+    pushed m.items m.count m.in_memory c.from.result c.in_memory.result c.args.s (omega arith) m.counted c.from.ensures c.in_memory.ensures c.if-n-ge32.false (omega (arith, c.if-n-ge32.false)) c.if-touches-gt-MOST_IN_MEMORY.false
