@@ -6,36 +6,26 @@ use std::alloc::{AllocError, Global};
 use std::process::Abort;
 use std::test::Fail;
 
-// The text is refused by this number at this line and column (0 for none), or accepted (number 0).
-fn answers(
-    rt: &impl Abort,
-    text: &[u8],
-    number: usize,
-    line: usize,
-    column: usize,
-) -> Result<(), Fail> {
+// The text is refused by this number at this line and column (0 for none), or accepted (number 0). The note tells which text it is.
+fn answers(rt: &impl Abort, text: &[u8], note: &str, number: usize, line: usize, column: usize) {
     match Loop::read(text) {
-        Ok(_) => {
-            assert_eq!(rt; number, 0);
-            Ok(())
-        },
+        Ok(_) => assert_eq!(rt; number, 0, "{note}"),
         Err(fault) => {
             let layer = if number == 7 {
                 Layer::Graph
             } else {
                 Layer::Text
             };
-            assert_eq!(rt; fault.number(), number);
-            assert_eq!(rt; fault.layer(), layer);
-            assert_eq!(rt; fault.line(), Some(line));
-            assert_eq!(rt; fault.column().unwrap_or(0), column);
-            Ok(())
+            assert_eq!(rt; fault.number(), number, "{note}");
+            assert_eq!(rt; fault.layer(), layer, "{note}");
+            assert_eq!(rt; fault.line(), Some(line), "{note}");
+            assert_eq!(rt; fault.column().unwrap_or(0), column, "{note}");
         }
     }
 }
 
 #[test]
-fn forms_and_shapes(rt: HostRuntime) -> Result<(), Fail> {
+fn forms_and_shapes(rt: HostRuntime) {
     let rows = [
         ("", 6, 0, 0),
         (" \n\n   ", 6, 0, 0),
@@ -63,13 +53,12 @@ fn forms_and_shapes(rt: HostRuntime) -> Result<(), Fail> {
         ("\x7f", 1, 1, 0),
     ];
     for (text, number, line, column) in rows {
-        answers(&rt, text.as_bytes(), number, line, column).note(text)?;
+        answers(&rt, text.as_bytes(), text, number, line, column);
     }
-    Ok(())
 }
 
 #[test]
-fn ranges(rt: HostRuntime) -> Result<(), Fail> {
+fn ranges(rt: HostRuntime) {
     let rows = [
         ("a = load 16 65535", 0, 0, 0),
         ("a = load 17 0", 3, 1, 10),
@@ -88,13 +77,12 @@ fn ranges(rt: HostRuntime) -> Result<(), Fail> {
         ("a = move b\nb = load 17 0", 3, 2, 10),
     ];
     for (text, number, line, column) in rows {
-        answers(&rt, text.as_bytes(), number, line, column).note(text)?;
+        answers(&rt, text.as_bytes(), text, number, line, column);
     }
-    Ok(())
 }
 
 #[test]
-fn names(rt: HostRuntime) -> Result<(), Fail> {
+fn names(rt: HostRuntime) {
     let rows = [
         ("load = move 1", 4, 1, 1),
         ("  unit = move 1", 4, 1, 3),
@@ -111,9 +99,8 @@ fn names(rt: HostRuntime) -> Result<(), Fail> {
         ("a = move 1\n\nstore b@3 1 0\nc = move d", 7, 3, 7),
     ];
     for (text, number, line, column) in rows {
-        answers(&rt, text.as_bytes(), number, line, column).note(text)?;
+        answers(&rt, text.as_bytes(), text, number, line, column);
     }
-    Ok(())
 }
 
 // So many lines that each define a name of two letters.
@@ -137,22 +124,37 @@ fn stores(heap: Global, count: u8) -> Result<Vec<u8>, AllocError> {
 
 #[test]
 fn counts(rt: HostRuntime) -> Result<(), Fail> {
-    answers(&rt, moves(rt.alloc(), 32)?.as_slice(), 0, 0, 0)?;
-    answers(&rt, moves(rt.alloc(), 33)?.as_slice(), 6, 33, 0)?;
-    answers(&rt, stores(rt.alloc(), 16)?.as_slice(), 0, 0, 0)?;
-    answers(&rt, stores(rt.alloc(), 17)?.as_slice(), 6, 17, 0)?;
+    answers(&rt, moves(rt.alloc(), 32)?.as_slice(), "32 moves", 0, 0, 0);
+    answers(&rt, moves(rt.alloc(), 33)?.as_slice(), "33 moves", 6, 33, 0);
+    answers(
+        &rt,
+        stores(rt.alloc(), 16)?.as_slice(),
+        "16 stores",
+        0,
+        0,
+        0,
+    );
+    answers(
+        &rt,
+        stores(rt.alloc(), 17)?.as_slice(),
+        "17 stores",
+        6,
+        17,
+        0,
+    );
     let mut both = stores(rt.alloc(), 16)?;
     both.extend_from_slice(b"\na = move 1\nb = load 1 0\n")?;
-    answers(&rt, both.as_slice(), 6, 19, 0)
+    answers(&rt, both.as_slice(), "16 stores and a load", 6, 19, 0);
+    Ok(())
 }
 
 #[test]
-fn lengths(rt: HostRuntime) -> Result<(), Fail> {
+fn lengths(rt: HostRuntime) {
     let padded = padded(b"a = move 1");
     let text: &[u8] = &padded;
     assert!(rt; text.len() == 4097);
-    answers(&rt, &text[0..4096], 0, 0, 0)?;
-    answers(&rt, text, 1, 0, 0)
+    answers(&rt, &text[0..4096], "4096 bytes", 0, 0, 0);
+    answers(&rt, text, "4097 bytes", 1, 0, 0);
 }
 
 // a = load 1 0, s = add s@1 a, store s 1 64

@@ -5,30 +5,20 @@ use texts::machine::Machine;
 const ALL: &str =
     "unit alu 1\nunit mem 1\nop load mem 2 1\nop store mem 1 1\nop mul alu 3 1\nop add alu 1 1\nop sub alu 1 1\nop move alu 1 1";
 
-// The text is refused by this number at this line and column (0 for none), or accepted (number 0).
-fn answers(
-    rt: &impl Abort,
-    text: &[u8],
-    number: usize,
-    line: usize,
-    column: usize,
-) -> Result<(), Fail> {
+// The text is refused by this number at this line and column (0 for none), or accepted (number 0). The note tells which text it is.
+fn answers(rt: &impl Abort, text: &[u8], note: &str, number: usize, line: usize, column: usize) {
     match Machine::read(text) {
-        Ok(_) => {
-            assert_eq!(rt; number, 0);
-            Ok(())
-        },
+        Ok(_) => assert_eq!(rt; number, 0, "{note}"),
         Err(fault) => {
-            assert_eq!(rt; fault.number(), number);
-            assert_eq!(rt; fault.line(), line);
-            assert_eq!(rt; fault.column().unwrap_or(0), column);
-            Ok(())
+            assert_eq!(rt; fault.number(), number, "{note}");
+            assert_eq!(rt; fault.line(), line, "{note}");
+            assert_eq!(rt; fault.column().unwrap_or(0), column, "{note}");
         }
     }
 }
 
 #[test]
-fn forms_and_shapes(rt: HostRuntime) -> Result<(), Fail> {
+fn forms_and_shapes(rt: HostRuntime) {
     let rows = [
         ("", 5, 0, 0),
         ("   \n\n ", 5, 0, 0),
@@ -52,14 +42,14 @@ fn forms_and_shapes(rt: HostRuntime) -> Result<(), Fail> {
         ("unit\x01", 1, 1, 0),
     ];
     for (text, number, line, column) in rows {
-        answers(&rt, text.as_bytes(), number, line, column).note(text)?;
+        answers(&rt, text.as_bytes(), text, number, line, column);
     }
-    answers(&rt, &[b'a', 128], 1, 1, 0)?;
-    answers(&rt, &[255], 1, 1, 0)
+    answers(&rt, &[b'a', 128], "the bytes 97 and 128", 1, 1, 0);
+    answers(&rt, &[255], "the byte 255", 1, 1, 0);
 }
 
 #[test]
-fn ranges_and_names(rt: HostRuntime) -> Result<(), Fail> {
+fn ranges_and_names(rt: HostRuntime) {
     let rows = [
         ("unit a 0", 3, 1, 8),
         ("unit a 9", 3, 1, 8),
@@ -79,21 +69,20 @@ fn ranges_and_names(rt: HostRuntime) -> Result<(), Fail> {
         ("unit a 1\nop load load 1 1", 4, 2, 9),
     ];
     for (text, number, line, column) in rows {
-        answers(&rt, text.as_bytes(), number, line, column).note(text)?;
+        answers(&rt, text.as_bytes(), text, number, line, column);
     }
-    Ok(())
 }
 
 #[test]
-fn classes_and_codes(rt: HostRuntime) -> Result<(), Fail> {
+fn classes_and_codes(rt: HostRuntime) {
     let eight = "unit a 1\nunit b 1\nunit c 1\nunit d 1\nunit e 1\nunit f 1\nunit g 1\nunit h 1\n";
     let nine =
         "unit a 1\nunit b 1\nunit c 1\nunit d 1\nunit e 1\nunit f 1\nunit g 1\nunit h 1\nunit i 1\n";
     let no_move =
         "unit a 1\nop load a 1 1\nop store a 1 1\nop mul a 1 1\nop add a 1 1\nop sub a 1 1\n";
-    answers(&rt, eight.as_bytes(), 5, 0, 0)?;
-    answers(&rt, nine.as_bytes(), 5, 9, 0)?;
-    answers(&rt, no_move.as_bytes(), 5, 0, 0)
+    answers(&rt, eight.as_bytes(), eight, 5, 0, 0);
+    answers(&rt, nine.as_bytes(), nine, 5, 9, 0);
+    answers(&rt, no_move.as_bytes(), no_move, 5, 0, 0);
 }
 
 // A text with spaces behind it, up to 4,097 bytes.
@@ -108,13 +97,13 @@ pub(crate) fn padded(text: &[u8]) -> [u8; 4097] {
 }
 
 #[test]
-fn lengths(rt: HostRuntime) -> Result<(), Fail> {
+fn lengths(rt: HostRuntime) {
     let whole = padded(ALL.as_bytes());
-    answers(&rt, &whole[0..4096], 0, 0, 0)?;
-    answers(&rt, &whole[0..4097], 1, 0, 0)?;
+    answers(&rt, &whole[0..4096], "4096 bytes", 0, 0, 0);
+    answers(&rt, &whole[0..4097], "4097 bytes", 1, 0, 0);
     let blank = [b'\n'; 4097];
-    answers(&rt, &blank[0..4096], 5, 0, 0)?;
-    answers(&rt, &blank[0..4097], 1, 0, 0)
+    answers(&rt, &blank[0..4096], "4096 empty lines", 5, 0, 0);
+    answers(&rt, &blank[0..4097], "4097 empty lines", 1, 0, 0);
 }
 
 #[test]
@@ -124,8 +113,8 @@ fn the_worked_machine(rt: HostRuntime) -> Result<(), Fail> {
     };
     let entries = machine.entries;
     assert_eq!(rt; entries.count, 2);
-    assert!(rt; entries.classes[0].name.text() == b"alu");
-    assert!(rt; entries.classes[1].name.text() == b"mem");
+    assert!(rt; entries.classes[0].name.text() == b"alu".as_slice());
+    assert!(rt; entries.classes[1].name.text() == b"mem".as_slice());
     let rows = [(1, 2), (1, 1), (0, 1), (0, 1), (0, 3), (0, 1)];
     for ((class, latency), timing) in rows.iter().zip(entries.timings.iter()) {
         let Some(timing) = timing else {
