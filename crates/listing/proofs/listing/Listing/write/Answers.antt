@@ -14,7 +14,7 @@ returns-then-stages-gt8 g c =
     record {
       written = (
         too_deep (loop_seen c.args.source.now) (schedule c.args.interval c.args.times.now) c.args.turns c.args.trips
-            (omega arith) c.if-interval-gt256.false (omega arith) c.if-turns-gt8.false c.if-trips-gt4096.false (omega (arith, e, c.if-stages-gt8.true)),
+            (omega arith) c.if-interval-gt256.false (omega arith) c.if-turns-gt8.false (omega arith) (omega (arith, e, c.if-stages-gt8.true)),
         refl,
       );
       means = tt;
@@ -30,20 +30,20 @@ pub split-parts-requires : goal.split-parts-requires
 split-parts-requires g c = record {
   shallow = (deep c.new-body.result c.depth-stages.result c.depth-stages.ensures, c.if-stages-gt8.false);
   turning = omega arith;
-  few = c.if-trips-gt4096.false;
+  few = omega arith;
 }
 
 pub write-requires : goal.write-requires
 write-requires g c =
     let r = ready c.new-body.result (g.S.Scheme.meaning c.args.scheme.now).name c.depth-stages.result c.farthest.result c.args.turns c.args.trips c.split-parts.result
-    (omega (arith, c.new-body.ensures.interval)) (omega (arith, c.new-body.ensures.interval)) c.new-body.ensures.turns c.if-turns-gt8.false c.new-body.ensures.trips c.if-trips-gt4096.false
+    (omega (arith, c.new-body.ensures.interval)) (omega (arith, c.new-body.ensures.interval)) c.new-body.ensures.turns c.if-turns-gt8.false c.new-body.ensures.trips (omega arith)
     c.depth-stages.ensures c.if-stages-gt8.false c.farthest.ensures c.split-parts.ensures in
     record { parts = r.parts; few = r.few; slots = r.slots; rows = r.rows }
 
 pub invariant_of-self : goal.invariant_of-self
 invariant_of-self g c =
     let r = ready c.new-body.result (g.S.Scheme.meaning c.args.scheme.now).name c.depth-stages.result c.farthest.result c.args.turns c.args.trips c.split-parts.result
-    (omega (arith, c.new-body.ensures.interval)) (omega (arith, c.new-body.ensures.interval)) c.new-body.ensures.turns c.if-turns-gt8.false c.new-body.ensures.trips c.if-trips-gt4096.false
+    (omega (arith, c.new-body.ensures.interval)) (omega (arith, c.new-body.ensures.interval)) c.new-body.ensures.turns c.if-turns-gt8.false c.new-body.ensures.trips (omega arith)
     c.depth-stages.ensures c.if-stages-gt8.false c.farthest.ensures c.split-parts.ensures in
     let owes = listing_from c.new-body.result (g.S.Scheme.meaning c.args.scheme.now).name c.split-parts.result c.write.new.self c.args.interval c.args.trips
     c.new-body.ensures.interval c.if-interval-gt256.false r c.write.ensures.starts in
@@ -52,7 +52,7 @@ invariant_of-self g c =
 pub returns : goal.returns
 returns g c =
     let r = ready c.new-body.result (g.S.Scheme.meaning c.args.scheme.now).name c.depth-stages.result c.farthest.result c.args.turns c.args.trips c.split-parts.result
-    (omega (arith, c.new-body.ensures.interval)) (omega (arith, c.new-body.ensures.interval)) c.new-body.ensures.turns c.if-turns-gt8.false c.new-body.ensures.trips c.if-trips-gt4096.false
+    (omega (arith, c.new-body.ensures.interval)) (omega (arith, c.new-body.ensures.interval)) c.new-body.ensures.turns c.if-turns-gt8.false c.new-body.ensures.trips (omega arith)
     c.depth-stages.ensures c.if-stages-gt8.false c.farthest.ensures c.split-parts.ensures in
     let e = stages_same c.new-body.result c.depth-stages.result c.args.source.now c.args.times.now c.args.interval
     c.new-body.ensures.source c.new-body.ensures.times c.new-body.ensures.interval c.depth-stages.ensures in
@@ -72,7 +72,7 @@ returns g c =
     record {
       written = (
         no_complaint (loop_seen c.args.source.now) (schedule c.args.interval c.args.times.now) c.args.turns c.args.trips
-            (omega arith) c.if-interval-gt256.false (omega arith) c.if-turns-gt8.false c.if-trips-gt4096.false shallow,
+            (omega arith) c.if-interval-gt256.false (omega arith) c.if-turns-gt8.false (omega arith) shallow,
         is_listing _ c.new-body.result (g.S.Scheme.meaning c.args.scheme.now).name c.args.source.now c.args.times.now c.args.interval c.args.turns c.args.trips
             c.new-body.ensures.source c.new-body.ensures.times c.new-body.ensures.interval c.new-body.ensures.turns c.new-body.ensures.trips r c.write.ensures.keeps refl refl,
       );
