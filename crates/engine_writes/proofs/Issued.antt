@@ -1,5 +1,5 @@
 -- One slot issues.
-use Rattle.std.proofs.Common.{◌≡◌, ℕ, suc, ◌+◌, ◌-◌, ◌*◌, ◌%◌, ◌<◌, ◌≤◌, Bool, true, false, cond, ◌&&◌, eqb, ◌⊎◌, List, [], ◌∷◌, length, get_or, set, sym, refl, ap, ◌∙◌, subst, inl, inr, arith}
+use Rattle.std.proofs.Common.{◌≡◌, ℕ, ◌+◌, ◌-◌, ◌%◌, ◌<◌, ◌≤◌, true, false, List, [], ◌∷◌, length, set, sym, refl, ap, ◌∙◌, subst, inl, inr, arith}
 use mathlib.Core.Path.{fun_ext}
 use Rattle.std.proofs.lemmas.List.{get_or-set_same, get_or-set_other}
 use Rattle.std.proofs.lemmas.Bool.{cases_eq, eq-eqb, ne_eqb}
@@ -11,8 +11,8 @@ use Rattle.model.specs.Plain.{nought, written, evaluate}
 use Rattle.model.specs.Issues as issues
 use Rattle.model.specs.Driving as driving
 use Rattle.model.specs.Driving.{put, source_value}
-use Rattle.engine_laws.specs.Parts.{slot_value, waiting_after, memory_after, statuses, waitings, memories}
-use Rattle.engine_laws.specs.Dues.{Listed, Awaited, Pending, Pushed}
+use Rattle.engine_laws.specs.Parts.{slot_value, statuses, waitings, memories}
+use Rattle.engine_laws.specs.Dues.{Awaited, Pending, Pushed}
 use Rattle.statements.specs.declared.statement.Cell.{Cell}
 use Rattle.code.specs.declared.issue.Source.{Source}
 use Rattle.code.specs.declared.issue.Operation.{Operation}
@@ -20,7 +20,7 @@ use Rattle.code.specs.declared.issue.Operation.TheVariants.{Load, Store, Binary,
 use Rattle.engine_slots.specs.declared.slot.Slot.{Slot}
 use Rattle.engine_writes.specs.declared.waiting.Waiting.{Waiting}
 use Rattle.engine_slots.specs.Slots.{slot_of, operation_of, source_of}
-use Rattle.engine_writes.specs.Files.{value_file, waiting_file, entry_of, Registers}
+use Rattle.engine_writes.specs.Files.{value_file, waiting_file, entry_of}
 use Rattle.engine_writes.specs.Steps.{Waited, Stored, WaitedSoFar, StoredSoFar}
 
 module _ {V : Type 0} (dom : Domain V) (values : List V) (p : ℕ) (slot : Slot) (memory : List V) where

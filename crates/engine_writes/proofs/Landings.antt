@@ -1,13 +1,13 @@
 -- One register more lands.
-use Rattle.std.proofs.Common.{◌≡◌, ℕ, suc, ◌+◌, ◌*◌, ◌%◌, ◌<◌, ◌≤◌, Bool, true, false, cond, ◌&&◌, eqb, ◌⊎◌, List, length, get_or, set, sym, refl, ap, ◌∙◌, subst, inl, inr, arith}
-use Rattle.std.proofs.lemmas.List.{get_or-set_same, get_or-set_other}
-use Rattle.std.proofs.lemmas.Bool.{cases_eq, cases_Bool, and_parts, eqb-true, eqb-false, eq-eqb}
+use Rattle.std.proofs.Common.{◌≡◌, ℕ, ◌+◌, ◌%◌, ◌<◌, Bool, true, false, cond, ◌&&◌, eqb, ◌⊎◌, List, length, get_or, set, sym, refl, ◌∙◌, subst, inl, inr, arith}
+use Rattle.std.proofs.lemmas.List.{get_or-set_other}
+use Rattle.std.proofs.lemmas.Bool.{cases_eq, cases_Bool, and_parts, eqb-true, eqb-false}
 use Rattle.model.specs.declared.Status.{Status}
 use Rattle.model.specs.declared.Status.TheVariants.{Never, Waits, Landed}
 use Rattle.model.specs.Driving.{awaits}
-use Rattle.engine_laws.specs.Dues.{due_place, Listed, Awaited, Pending}
+use Rattle.engine_laws.specs.Dues.{Listed, Pending}
 use Rattle.engine_writes.specs.declared.waiting.Waiting.{Waiting}
-use Rattle.engine_writes.specs.Files.{value_file, waiting_file, lands_by, Done, Same, LandsOne, Between, LandsListed, LandsBelow}
+use Rattle.engine_writes.specs.Files.{waiting_file, lands_by, Done, Same, LandsOne, Between, LandsListed, LandsBelow}
 
 pub awaits_waits : (s : Status) → awaits s ≡ true → s ≡ Waits
 awaits_waits Never h = let z : ◌≡◌ {A = ℕ} 0 1 = cc in absurd (omega arith)

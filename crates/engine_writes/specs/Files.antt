@@ -1,5 +1,5 @@
 -- The lent files as the definitions have them; d stands behind their ends.
-use Rattle.std.specs.Prelude.{◌≡◌, ℕ, ◌+◌, ◌%◌, ◌<◌, ◌≤◌, Bool, cond, ◌&&◌, ◌⊎◌, List, get_or, ◌==◌, ◌≢◌, slice_index, slice_index_or}
+use Rattle.std.specs.Prelude.{◌≡◌, ℕ, ◌+◌, ◌%◌, ◌<◌, Bool, cond, ◌&&◌, ◌⊎◌, List, get_or, ◌==◌, ◌≢◌, slice_index, slice_index_or}
 use Rattle.model.specs.declared.Status.{Status}
 use Rattle.model.specs.declared.Status.TheVariants.{Never, Landed}
 use Rattle.model.specs.Driving as driving

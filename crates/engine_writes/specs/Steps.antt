@@ -1,5 +1,5 @@
 -- What the slots of a row do to the lent files, to memory and to the lists of due writes, from a place on.
-use Rattle.std.specs.Prelude.{◌≡◌, ℕ, ◌+◌, ◌<◌, List}
+use Rattle.std.specs.Prelude.{◌≡◌, ℕ, ◌+◌, List}
 use Rattle.model.specs.declared.Status.{Status}
 use Rattle.model.specs.Domains.{Domain}
 use Rattle.model.specs.Plain.{nought}

@@ -31,7 +31,7 @@ fn await_one<D: Domain>(
     counts: &mut [usize; AHEAD],
 )
     requires { (SlotWithin (length values.now) slot) × ((slot.target < length waiting.old) × (row.cycle + 8 < 2 ^ 64)) }
-    ensures { (file : ℕ) → slot.target < file → Waited operations values.now row.pass memory.now row.cycle file (slot_of slot ∷ [])
+    ensures { (file : ℕ) → slot.target < file → Waited D.operations values.now row.pass memory.now row.cycle file (slot_of slot ∷ [])
         waiting.old dues.old counts.old waiting.new dues.new counts.new }
 {
     if makes(slot.operation) {
@@ -52,7 +52,7 @@ fn store_one<D: Domain>(
     memory: &mut [D::Value],
 )
     requires { SlotWithin (length values.now) slot }
-    ensures { Stored operations values.now row.pass (slot_of slot ∷ []) memory.old memory.new }
+    ensures { Stored D.operations values.now row.pass (slot_of slot ∷ []) memory.old memory.new }
 {
     if let Operation::Store(source, cell) = slot.operation {
         let iteration = row.pass.saturating_sub(slot.stage);
@@ -76,9 +76,9 @@ pub fn await_all<C: Code, S: Scheme, D: Domain>(
     counts: &mut [usize; AHEAD],
 )
     requires held { (TimingsHeld timings.now) × (row.cycle + 8 < 2 ^ 64) }
-    requires fits { ((S.Scheme.meaning scheme.now).file ≤ length values.now) × ((S.Scheme.meaning scheme.now).file ≤ length waiting.old) }
-    ensures { Waited D.Domain.operations values.now row.pass memory.now row.cycle (S.Scheme.meaning scheme.now).file
-        (slots_from (slot_at (S.Scheme.meaning scheme.now).resolve timings.now (C.Code.issued code.now) row.pass) row.end row.first)
+    requires fits { ((S.meaning scheme.now).file ≤ length values.now) × ((S.meaning scheme.now).file ≤ length waiting.old) }
+    ensures { Waited D.operations values.now row.pass memory.now row.cycle (S.meaning scheme.now).file
+        (slots_from (slot_at (S.meaning scheme.now).resolve timings.now (C.issued code.now) row.pass) row.end row.first)
         waiting.old dues.old counts.old waiting.new dues.new counts.new }
 {
     for place in row.first..row.end {
@@ -98,9 +98,9 @@ pub fn store_all<C: Code, S: Scheme, D: Domain>(
     values: &[D::Value],
     memory: &mut [D::Value],
 )
-    requires { (TimingsHeld timings.now) × ((S.Scheme.meaning scheme.now).file ≤ length values.now) }
-    ensures { Stored D.Domain.operations values.now row.pass
-        (slots_from (slot_at (S.Scheme.meaning scheme.now).resolve timings.now (C.Code.issued code.now) row.pass) row.end row.first)
+    requires { (TimingsHeld timings.now) × ((S.meaning scheme.now).file ≤ length values.now) }
+    ensures { Stored D.operations values.now row.pass
+        (slots_from (slot_at (S.meaning scheme.now).resolve timings.now (C.issued code.now) row.pass) row.end row.first)
         memory.old memory.new }
 {
     for place in row.first..row.end {

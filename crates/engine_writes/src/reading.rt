@@ -15,7 +15,7 @@ use values::domain::Domain;
 // What an operand is worth.
 pub fn read_source<D: Domain>(domain: &D, values: &[D::Value], source: Source) -> D::Value
     requires { SourceWithin (length values.now) source }
-    ensures { result ≡ source_value operations (value_file (nought operations) values.now) (source_of source) }
+    ensures { result ≡ source_value D.operations (value_file (nought D.operations) values.now) (source_of source) }
 {
     match source {
         Source::Literal(z) => domain.literal(z),
@@ -24,7 +24,7 @@ pub fn read_source<D: Domain>(domain: &D, values: &[D::Value], source: Source) -
 }
 
 pub fn apply<D: Domain>(domain: &D, operator: Operator, a: D::Value, b: D::Value) -> D::Value
-    ensures { result ≡ operations.apply operator a b }
+    ensures { result ≡ D.operations.apply operator a b }
 {
     match operator {
         Operator::Plus => domain.add(a, b),
@@ -35,7 +35,7 @@ pub fn apply<D: Domain>(domain: &D, operator: Operator, a: D::Value, b: D::Value
 
 // What a load of an iteration finds; the value of 0 outside memory.
 pub fn load<D: Domain>(domain: &D, memory: &[D::Value], cell: Cell, iteration: usize) -> D::Value
-    ensures { result ≡ slice_index_or memory.now (cell_of cell.stride cell.offset iteration) (nought operations) }
+    ensures { result ≡ slice_index_or memory.now (cell_of cell.stride cell.offset iteration) (nought D.operations) }
 {
     match find_cell(cell, iteration, memory.len()) {
         Some(x) => memory[x],
@@ -51,7 +51,7 @@ pub fn evaluate<D: Domain>(
     iteration: usize,
 ) -> D::Value
     requires { OperationWithin (length values.now) operation }
-    ensures { result ≡ evaluated operations (source_value operations (value_file (nought operations) values.now)) (operation_of operation) iteration memory.now }
+    ensures { result ≡ evaluated D.operations (source_value D.operations (value_file (nought D.operations) values.now)) (operation_of operation) iteration memory.now }
 {
     match operation {
         Operation::Load(cell) => load(domain, memory, cell, iteration),

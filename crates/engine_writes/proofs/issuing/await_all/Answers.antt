@@ -1,4 +1,4 @@
-use Rattle.std.proofs.Common.{◌≡◌, ℕ, ◌+◌, ◌<◌, List, [], ◌∷◌, sym, refl, ap, ◌∙◌, subst, arith}
+use Rattle.std.proofs.Common.{◌+◌, List, sym, subst}
 use Rattle.model.specs.Issues.{Slot}
 use Rattle.engine_laws.specs.Rows.{slots_from}
 use Rattle.engine_laws.proofs.Apart.{from_none, from_some, gathered_end}
@@ -28,11 +28,11 @@ loop-place-preserved g c =
       | in-Some w ↦
           let here = subst Left (from_some f end at (slot_of w.in-Some.slot) c.loop-place-test.true (sym w.in-Some.ensures.is)) c.loop-place.invariant in
           let within = w.in-Some.ensures.within c.requires.held.0 in
-          rw (w.waiting_is, w.dues-is, w.counts-is)
+          rw (w.waiting-is, w.dues-is, w.counts-is)
           (waited_more dom c.args.values.now p c.args.memory.now c.args.row.cycle file slots _ _ _ _ _ _ (slots_from f end (at + 1)) (slot_of w.in-Some.slot) _ _ _ here
           (w.await_one.ensures file within.target))
       | in_default w ↦
-          rw (w.waiting_is, w.dues-is, w.counts-is)
+          rw (w.waiting-is, w.dues-is, w.counts-is)
           (subst Left (from_none f end at c.loop-place-test.true (sym w.in_default.ensures.is)) c.loop-place.invariant)
     ]
 

@@ -1,4 +1,4 @@
-use Rattle.std.proofs.Common.{◌≡◌, sym, refl, ◌∙◌, arith}
+use Rattle.std.proofs.Common.{sym, refl, ◌∙◌}
 use Rattle.engine_writes.proofs.Issued.{made_waits, unmade_waits}
 use Rattle.engine_writes.proofs.issuing.await_one.Goals as goal
 

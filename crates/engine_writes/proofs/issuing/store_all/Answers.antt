@@ -1,4 +1,4 @@
-use Rattle.std.proofs.Common.{◌≡◌, ℕ, ◌+◌, ◌<◌, List, [], ◌∷◌, sym, refl, ap, ◌∙◌, subst, arith}
+use Rattle.std.proofs.Common.{◌+◌, sym, subst}
 use Rattle.engine_laws.specs.Rows.{slots_from}
 use Rattle.engine_laws.proofs.Apart.{from_none, from_some, gathered_end}
 use Rattle.engine_slots.specs.Slots.{slot_of}

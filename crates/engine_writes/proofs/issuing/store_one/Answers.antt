@@ -1,4 +1,4 @@
-use Rattle.std.proofs.Common.{◌≡◌, ◌-◌, ◌≤◌, length, set, sym, refl, ap, ◌∙◌, subst, arith}
+use Rattle.std.proofs.Common.{◌≡◌, ◌-◌, ◌≤◌, length, set, sym, refl, ap, ◌∙◌, subst}
 use Rattle.std.proofs.lemmas.List.{set_past}
 use Rattle.model.specs.Loop.{cell}
 use Rattle.model.specs.Plain.{nought}

@@ -1,4 +1,4 @@
-use Rattle.std.proofs.Common.{◌≡◌, ℕ, ◌%◌, sym, refl, arith}
+use Rattle.std.proofs.Common.{ℕ, refl, arith}
 use Rattle.engine_writes.specs.Files.{Done}
 use Rattle.engine_writes.proofs.Landings.{listed_all, below_all, next_pending}
 use Rattle.engine_writes.proofs.landing.land.Goals as goal

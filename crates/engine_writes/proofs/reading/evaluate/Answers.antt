@@ -1,4 +1,4 @@
-use Rattle.std.proofs.Common.{refl, ◌∙◌, ap₂}
+use Rattle.std.proofs.Common.{◌∙◌, ap₂}
 use Rattle.model.specs.Plain.{evaluate}
 use Rattle.engine_writes.proofs.reading.evaluate.Goals as goal
 
