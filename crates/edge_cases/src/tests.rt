@@ -166,7 +166,7 @@ fn sixteen_stores(rt: HostRuntime) -> Result<(), Fail> {
     let heap = rt.alloc();
     let mut edges = Edges::new(heap)?;
     list(&mut edges, b"x = add x@1 1")?;
-    assert!(rt; edges.as_slice() == &[edge(0, 0, 1, 1)]);
+    assert!(rt; edges.as_slice() == [edge(0, 0, 1, 1)].as_slice());
     list(
         &mut edges,
         b"store 1 1 0\nstore 1 2 0\nstore 1 3 0\nstore 1 4 0\nstore 1 5 0\nstore 1 6 0\nstore 1 7 0\nstore 1 8 0\nstore 1 9 0\nstore 1 10 0\nstore 1 11 0\nstore 1 12 0\nstore 1 13 0\nstore 1 14 0\nstore 1 15 0\nstore 1 16 0",
