@@ -1,28 +1,24 @@
 -- The run of the program is the machine's.
-use Rattle.std.proofs.Common.{◌≡◌, ℕ, zero, suc, ◌+◌, ◌-◌, ◌*◌, ◌/◌, ◌%◌, ◌^◌, ◌<◌, ◌≤◌, Bool, true, false, cond, ◌&&◌, ltb, leb, List, [], ◌∷◌, length, get_or, replicate, Some, None, Ok, Err, Result, sym, refl, ap, ◌∙◌, subst, inl, inr, add-one, arith}
+use Rattle.std.proofs.Common.{◌≡◌, ℕ, zero, suc, ◌+◌, ◌*◌, ◌%◌, ◌^◌, ◌<◌, ◌≤◌, Bool, true, false, cond, ◌&&◌, ltb, leb, List, length, get_or, replicate, Some, None, Ok, Err, Result, sym, refl, ap, ◌∙◌, subst, inl, inr, add-one, arith}
 use lib.ListN.{get_or-replicate, length-replicate}
 use Rattle.std.proofs.lemmas.List.{get_or_past}
 use Rattle.std.proofs.lemmas.Bool.{cases_eq, cases_lt, and_parts, ltb-true, leb-true}
-use Rattle.model.specs.declared.Status.{Status}
 use Rattle.model.specs.declared.Status.TheVariants.{Never}
 use Rattle.model.specs.declared.Timing.{Timing}
 use Rattle.model.specs.Limits.{timing}
 use Rattle.model.specs.Domains.{Domain}
-use Rattle.model.specs.Plain.{nought}
 use Rattle.model.specs.Issues.{Form}
 use Rattle.model.specs.Driving as driving
 use Rattle.model.specs.Driving.{Machine, Outcome, finished, stopped, go_on, cycle, run, all_below}
 use Rattle.engine_laws.proofs.Below.{all_below_each}
 use Rattle.engine.specs.declared.answer.Fault.{Fault}
-use Rattle.engine.specs.declared.answer.Refusal.{Refusal}
 use Rattle.engine.specs.declared.answer.Refusal.TheVariants.{Timing as BadTiming, Files, Cycles}
 use Rattle.engine.specs.declared.answer.Halt.{Halt}
 use Rattle.engine.specs.declared.answer.Halt.TheVariants.{Stopped}
 use Rattle.engine_slots.specs.declared.slot.Denial.{Denial}
 use Rattle.engine.specs.declared.tables.Tables.{Tables}
 use Rattle.engine_writes.specs.declared.waiting.Waiting.{Waiting}
-use Rattle.engine_writes.specs.Files.{value_file, waiting_file}
-use Rattle.engine.specs.Runs.{Left, Stands, Cycled, CycleKept}
+use Rattle.engine.specs.Runs.{CycleKept}
 use Rattle.engine_slots.specs.Slots.{TimingHeld, TimingsHeld}
 use Rattle.engine.specs.Answers.{timing_held, begins, ended, faulted, lent, Running, Ran, Driven}
 

@@ -1,5 +1,5 @@
 -- A cycle of the program is a cycle of the machine.
-use Rattle.std.proofs.Common.{◌≡◌, ℕ, suc, ◌+◌, ◌-◌, ◌*◌, ◌/◌, ◌%◌, ◌<◌, ◌≤◌, List, [], ◌∷◌, length, get_or, replicate, Some, None, Option, sym, refl, ap, ◌∙◌, subst, arith}
+use Rattle.std.proofs.Common.{◌≡◌, ℕ, ◌+◌, ◌-◌, ◌/◌, ◌%◌, List, length, get_or, replicate, Some, None, Option, sym, refl, ap, ◌∙◌, subst, arith}
 use mathlib.Core.Path.{fun_ext}
 use lib.ListN.{length-replicate}
 use Rattle.model.specs.declared.Status.{Status}
@@ -8,8 +8,7 @@ use Rattle.model.specs.declared.Timing.{Timing}
 use Rattle.model.specs.Domains.{Domain}
 use Rattle.model.specs.Plain.{nought}
 use Rattle.model.specs.Issues.{Slot, Form}
-use Rattle.model.specs.Driving as driving
-use Rattle.model.specs.Driving.{Machine, Examination, passed, failed, land, examine, settled, issue_all, cycle, finished, stopped}
+use Rattle.model.specs.Driving.{Machine, Examination, passed, failed, land, examine, settled, issue_all, cycle, finished}
 use Rattle.model.specs.Codes.{CodeSlot, CodeRows, slot_in, form_of, gathered}
 use Rattle.engine_laws.specs.Parts.{statuses, takens}
 use Rattle.engine_laws.specs.Tracks.{Tracks}
@@ -20,7 +19,7 @@ use Rattle.engine_laws.proofs.Machines.{machine_same, examined_alike}
 use Rattle.engine_slots.specs.declared.slot.Denial.{Denial}
 use Rattle.engine.specs.declared.tables.Tables.{Tables}
 use Rattle.engine_writes.specs.declared.waiting.Waiting.{Waiting}
-use Rattle.engine_writes.specs.Files.{value_file, waiting_file, Done, LandsAll, Registers}
+use Rattle.engine_writes.specs.Files.{value_file, waiting_file, Done, LandsAll}
 use Rattle.engine_slots.specs.Rows.{slot_at}
 use Rattle.engine_writes.specs.Steps.{Waited, Stored}
 use Rattle.engine.specs.Runs.{Left, Stands, Cycled}

@@ -1,5 +1,5 @@
 -- What a run answers, and what it leaves in memory and in the two files.
-use Rattle.std.specs.Prelude.{◌≡◌, ℕ, ◌+◌, ◌*◌, ◌^◌, ◌<◌, ◌≤◌, Bool, cond, ◌&&◌, List, Ok, Err, Result, nat_le, nat_lt}
+use Rattle.std.specs.Prelude.{◌≡◌, ℕ, ◌+◌, ◌^◌, Bool, cond, ◌&&◌, List, Ok, Err, Result, nat_le, nat_lt}
 use Rattle.model.specs.declared.Timing.{Timing}
 use Rattle.model.specs.Domains.{Domain}
 use Rattle.model.specs.Plain.{nought}

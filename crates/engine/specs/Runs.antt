@@ -1,6 +1,5 @@
 -- How the lent files and the tables stand to the driving machine, between two cycles and at the end.
-use Rattle.std.specs.Prelude.{◌≡◌, ℕ, ◌+◌, ◌-◌, ◌*◌, ◌/◌, ◌%◌, ◌<◌, ◌≤◌, List, Some, None, Option}
-use Rattle.model.specs.declared.Status.{Status}
+use Rattle.std.specs.Prelude.{◌≡◌, ℕ, ◌+◌, List, Some, None, Option}
 use Rattle.model.specs.Domains.{Domain}
 use Rattle.model.specs.Plain.{nought}
 use Rattle.model.specs.Issues.{Form}

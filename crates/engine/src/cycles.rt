@@ -33,11 +33,11 @@ pub fn run_cycle<C: Code, S: Scheme, D: Domain>(
     tables: &mut Tables,
 ) -> Option<Denial>
     requires held { (TimingsHeld hardware.now.timings) × (moment.cycle + 8 < 2 ^ 64) }
-    requires fits { ((S.Scheme.meaning scheme.now).file ≤ length values.old) × ((S.Scheme.meaning scheme.now).file ≤ length waiting.old) }
-    requires kept { Registers tables.old.dues (S.Scheme.meaning scheme.now).file }
+    requires fits { ((S.meaning scheme.now).file ≤ length values.old) × ((S.meaning scheme.now).file ≤ length waiting.old) }
+    requires kept { Registers tables.old.dues (S.meaning scheme.now).file }
     ensures { (k : ℕ) → moment.cycle / k ≡ moment.pass → moment.cycle % k ≡ moment.row →
-        CycleKept D.Domain.operations (units_of hardware.now.units) trips (S.Scheme.meaning scheme.now).file k moment.cycle
-        (form_of (S.Scheme.meaning scheme.now).resolve hardware.now.timings k (C.Code.form code.now))
+        CycleKept D.operations (units_of hardware.now.units) trips (S.meaning scheme.now).file k moment.cycle
+        (form_of (S.meaning scheme.now).resolve hardware.now.timings k (C.form code.now))
         memory.old values.old waiting.old tables.old
         memory.new values.new waiting.new tables.new result }
 {

@@ -84,11 +84,11 @@ fn run_cycles<C: Code, S: Scheme, D: Domain>(
     waiting: &mut [Waiting<D::Value>],
 ) -> Result<(), Fault>
     requires held { (TimingsHeld hardware.now.timings) × ((cycles + 8 < 2 ^ 64) × (cycles ≡ run.passes * run.interval)) }
-    requires fits { ((S.Scheme.meaning scheme.now).file ≤ length values.old) × ((S.Scheme.meaning scheme.now).file ≤ length waiting.old) }
-    ensures { Ran D.Domain.operations
-        (run_of D.Domain.operations (units_of hardware.now.units) run.interval run.trips
-        (form_of (S.Scheme.meaning scheme.now).resolve hardware.now.timings run.interval (C.Code.form code.now)) cycles
-        (lent D.Domain.operations memory.old values.old waiting.old))
+    requires fits { ((S.meaning scheme.now).file ≤ length values.old) × ((S.meaning scheme.now).file ≤ length waiting.old) }
+    ensures { Ran D.operations
+        (run_of D.operations (units_of hardware.now.units) run.interval run.trips
+        (form_of (S.meaning scheme.now).resolve hardware.now.timings run.interval (C.form code.now)) cycles
+        (lent D.operations memory.old values.old waiting.old))
         memory.new values.new waiting.new result }
 {
     let mut tables = Tables::new();
@@ -134,11 +134,11 @@ pub fn drive<C: Code, S: Scheme, D: Domain>(
     values: &mut [D::Value],
     waiting: &mut [Waiting<D::Value>],
 ) -> Result<usize, Halt>
-    ensures { Driven D.Domain.operations
-        (begins hardware.now.timings (S.Scheme.meaning scheme.now).file (length values.old) (length waiting.old) (run.passes * run.interval))
-        (driven D.Domain.operations (units_of hardware.now.units) run.interval run.trips
-        (form_of (S.Scheme.meaning scheme.now).resolve hardware.now.timings run.interval (C.Code.form code.now)) run.passes
-        (lent D.Domain.operations memory.old values.old waiting.old))
+    ensures { Driven D.operations
+        (begins hardware.now.timings (S.meaning scheme.now).file (length values.old) (length waiting.old) (run.passes * run.interval))
+        (driven D.operations (units_of hardware.now.units) run.interval run.trips
+        (form_of (S.meaning scheme.now).resolve hardware.now.timings run.interval (C.form code.now)) run.passes
+        (lent D.operations memory.old values.old waiting.old))
         memory.old values.old waiting.old memory.new values.new waiting.new result }
 {
     let cycles = begin(

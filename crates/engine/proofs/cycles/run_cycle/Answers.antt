@@ -1,8 +1,6 @@
-use Rattle.std.proofs.Common.{◌≡◌, ◌/◌, ◌%◌, length}
 use Rattle.model.specs.Codes.{form_of}
-use Rattle.engine_laws.specs.Rows.{slots_from}
 use Rattle.engine_laws.proofs.Machines.{next_cycle}
-use Rattle.engine_slots.specs.Rows.{slot_at, units_of}
+use Rattle.engine_slots.specs.Rows.{units_of}
 use Rattle.engine.proofs.OneCycle.{row_slots, landings, denied, admitted}
 use Rattle.engine.proofs.cycles.run_cycle.Goals as goal
 

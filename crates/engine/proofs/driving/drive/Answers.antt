@@ -1,9 +1,9 @@
-use Rattle.std.proofs.Common.{◌≡◌, ℕ, ◌*◌, length, Ok, Err, sym, refl, ap, ◌∙◌, arith}
+use Rattle.std.proofs.Common.{◌≡◌, ◌*◌, length, Ok, Err, sym, ap, ◌∙◌}
 use Rattle.std.proofs.lemmas.Result.{err_from_is_err_and}
 use Rattle.model.specs.Driving.{run}
 use Rattle.model.specs.Codes.{form_of}
 use Rattle.engine_slots.specs.Rows.{units_of}
-use Rattle.engine.specs.Answers.{begins, lent, Ran}
+use Rattle.engine.specs.Answers.{begins, lent}
 use Rattle.engine.proofs.Driven.{begun, whole, answers}
 use Rattle.engine.proofs.driving.drive.Goals as goal
 

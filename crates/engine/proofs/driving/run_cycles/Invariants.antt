@@ -1,4 +1,4 @@
-use Rattle.std.proofs.Common.{◌≡◌, ℕ, ◌+◌, ◌*◌, ◌<◌, ◌≤◌}
+use Rattle.std.proofs.Common.{◌≡◌, ◌+◌, ◌*◌, ◌<◌}
 use Rattle.model.specs.Codes.{form_of}
 use Rattle.engine_writes.specs.Files.{Registers}
 use Rattle.engine_slots.specs.Rows.{units_of}
