@@ -28,7 +28,7 @@ use Rattle.listing.specs.Forms.{rows_said}
 use Rattle.engine.specs.declared.answer.Halt.{Halt}
 use Rattle.engine_writes.specs.declared.waiting.Waiting.{Waiting}
 use Rattle.engine_writes.specs.Files.{entry_of}
-use Rattle.engine_slots.specs.Rows.{units_of}
+use Rattle.engine_slots.specs.Rows.{units_of as units_in}
 use Rattle.engine.specs.Answers.{timing_held, begins, lent, Driven}
 use Rattle.guarantee.specs.Calls.{Buffers, Call, run, with_listing, ListedBody, listing_in, Planned, Answer, ran, refused, short_files, outside_memory}
 use Rattle.guarantee.specs.Guarantees.{StandsSound, code_timings, listing_of, listed_form, values_in, waiting_in, machine_left, Guaranteed}
@@ -109,11 +109,11 @@ module _ {S V : Type 0} (meaning : S → Meaning) (place : S → ℕ → ℕ →
   here = ap (λ x. listing_in (standing_seen x)) stands
 
   pub run_driven : (timings : List Timing) (units : List ℕ) (n : ℕ) (memory values : List V) (waiting : List (Waiting V)) (memory' values' : List V) (waiting' : List (Waiting V)) (r : Result ℕ Halt) →
-      timings ≡ code_timings on → ((u : ℕ) → units_of units u ≡ (hardware on ops).units u) → n ≡ passes_run desk.listing.parts →
+      timings ≡ code_timings on → ((u : ℕ) → units_in units u ≡ (hardware on ops).units u) → n ≡ passes_run desk.listing.parts →
       (meaning scheme).file ≤ length values → (meaning scheme).file ≤ length waiting → InMemory ops trips (length memory) →
       length values' ≡ length values → length waiting' ≡ length waiting →
       Driven dom (begins timings (meaning scheme).file (length values) (length waiting) (n * w.interval))
-      (drive dom (units_of units) w.interval trips (form_of (meaning scheme).resolve timings w.interval (rows_said desk.listing)) n (lent dom memory values waiting))
+      (drive dom (units_in units) w.interval trips (form_of (meaning scheme).resolve timings w.interval (rows_said desk.listing)) n (lent dom memory values waiting))
       memory values waiting memory' values' waiting' r →
       Whole meaning place dom scheme desk →
       (r ≡ Ok (cycles w (length ops) trips)) ×
@@ -124,7 +124,7 @@ module _ {S V : Type 0} (meaning : S → Meaning) (place : S → ℕ → ℕ →
       let known = known_plan (meaning scheme) _ (standing_seen desk.standing) _ whole.sound (listing_plan (standing_seen desk.standing) listed here) in
       let few = few_listed (meaning scheme) _ (standing_seen desk.standing) listed whole.sound here in
       let is = whole.written listed here in
-      let same_units : units_of units ≡ (hardware on ops).units = fun_ext each_unit in
+      let same_units : units_in units ≡ (hardware on ops).units = fun_ext each_unit in
       let turns = known.holds.turns in
       let lawful = known.holds.lives.lawful in
       let sizes = listing_sizes ops (hardware on ops) w (meaning scheme).name p.scheduled.turns trips (on_machine on ops known.machine_sound known.loop_sound).formed
@@ -139,7 +139,7 @@ module _ {S V : Type 0} (meaning : S → Meaning) (place : S → ℕ → ℕ →
       let forms : said_form ≡ real =
       ap (λ t. form_of (meaning scheme).resolve t k (rows_said desk.listing)) same_timings ∙ ap (form_of (meaning scheme).resolve (code_timings on) k) rows in
       let piped = runs_pipelined on ops known.machine_sound known.loop_sound (planned_seen p.scheduled) (meaning scheme) known.holds trips dom b inside in
-      let ends : drive dom (units_of units) k trips said_form n (lent dom memory values waiting) ≡ finished (machine_left dom (meaning scheme) on ops (planned_seen p.scheduled) trips b) =
+      let ends : drive dom (units_in units) k trips said_form n (lent dom memory values waiting) ≡ finished (machine_left dom (meaning scheme) on ops (planned_seen p.scheduled) trips b) =
       ap (λ x. drive dom x k trips said_form n (lent dom memory values waiting)) same_units ∙
       ap (λ x. drive dom (hardware on ops).units k trips x n (lent dom memory values waiting)) forms ∙
       ap (λ x. drive dom (hardware on ops).units k trips real x (lent dom memory values waiting)) same_passes ∙
@@ -150,7 +150,7 @@ module _ {S V : Type 0} (meaning : S → Meaning) (place : S → ℕ → ℕ →
       begun (code_timings on) (meaning scheme).file (length values) (length waiting) (cycles w (length ops) trips) (timings_held on known.machine_sound) v u
       (short_run w (length ops) trips few known.holds.sound.eight known.holds.sound.short) in
       let done = subst (λ x. Driven dom (Ok (cycles w (length ops) trips)) x memory values waiting memory' values' waiting' r) ends
-      (subst (λ x. Driven dom x (drive dom (units_of units) k trips said_form n (lent dom memory values waiting)) memory values waiting memory' values' waiting' r) begins_well said) in
+      (subst (λ x. Driven dom x (drive dom (units_in units) k trips said_form n (lent dom memory values waiting)) memory values waiting memory' values' waiting' r) begins_well said) in
       let left = done.1 in (
         done.0,
         run_accepted meaning place dom (state scheme desk) whole.sound b c listed (cycles w (length ops) trips) here v (subst (λ x. (meaning scheme).file ≤ x) (sym (length-map waiting entry_of)) u) inside refl
