@@ -12,7 +12,7 @@ use crate::slot::{Bounds, Row, Slot};
 use crate::units::{PLACES, is_unit_free, take_unit};
 use code::issue::{Operation, Source};
 use model::{Question, Status};
-use reach::reaching::find_cell;
+pub use reach::reaching::find_cell;
 
 // The registers whose status is kept.
 pub const REGISTERS: usize = 256;

@@ -1,8 +1,7 @@
 -- The loop of the code, operation by operation.
-use Rattle.std.proofs.Common.{◌≡◌, ℕ, ◌<◌, ◌≤◌, true, length, get_or, take, sym, refl, ap, ◌∙◌, subst, arith}
+use Rattle.std.proofs.Common.{◌≡◌, ℕ, ◌<◌, ◌≤◌, length, get_or, take, sym, ap, ◌∙◌, subst, arith}
 use Rattle.std.proofs.lemmas.List.{get_or-map, get_or-take, length-take-le, length-map}
 use Rattle.model.specs.Loop.{Loop, Operand, literal, variable, Operation, load, store, binary, move, op, EachOperand, Named}
-use Rattle.model.specs.Soundness.{sound_loop}
 use Rattle.text_laws.proofs.Formed.{sound_named}
 use Rattle.dependence.specs.declared.loops.Loop.{Loop as OwnLoop}
 use Rattle.dependence.specs.declared.operation.Operation.{Operation as OwnOperation}

@@ -1,5 +1,5 @@
 -- One operation more.
-use Rattle.std.proofs.Common.{◌≡◌, ℕ, ◌+◌, ◌-◌, ◌<◌, ◌≤◌, max, true, false, cond, ltb, List, [], ◌∷◌, ◌++◌, length, get_or, set, sym, refl, ap, ◌∙◌, subst, ap₂, subst₂, inl, inr, arith}
+use Rattle.std.proofs.Common.{◌≡◌, ℕ, ◌+◌, ◌-◌, ◌<◌, max, true, false, cond, ltb, List, [], ◌∷◌, ◌++◌, length, get_or, set, sym, refl, ap, ◌∙◌, subst, ap₂, subst₂, inl, inr, arith}
 use mathlib.Core.Path.{fun_ext}
 use Rattle.std.proofs.lemmas.List.{get_or-set_same, get_or-set_other}
 use Rattle.std.proofs.lemmas.Bool.{cases_eq, cases_lt, lt-ltb, le-ltb}
@@ -12,7 +12,6 @@ use Rattle.model.specs.Lives.{Table, LifeWithin, Limits}
 use Rattle.model.specs.ScheduleLives.{read_at, greatest, last_read, life_of, lives_of, lives_table}
 use Rattle.schedule_laws.proofs.Tables.{read_more, lives_none, lives_more, lives_same, same_lives, each_within}
 use Rattle.lives.specs.Reads.{read_by}
-use Rattle.lives.specs.Schedules.{scheduled}
 
 -- THE LAST READS
 reads_same : (w : Schedule) (v q : ℕ) (a : Operand) → read_by (w.time q) w.interval v a ≡ read_at w v q a

@@ -1,5 +1,5 @@
 -- Times at an interval as a schedule, and what there is to a schedule.
-use Rattle.std.specs.Prelude.{◌≡◌, ℕ, ◌<◌, ◌≤◌, cond, List, length, Some, None, Option, nat_lt, slice_index}
+use Rattle.std.specs.Prelude.{◌≡◌, ℕ, ◌≤◌, cond, List, length, Some, None, Option, nat_lt, slice_index}
 use Rattle.model.specs.Loop.{Loop, total}
 use Rattle.model.specs.Limits.{timing, hardware}
 use Rattle.model.specs.declared.Timing.{Timing}

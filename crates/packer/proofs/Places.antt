@@ -1,5 +1,5 @@
 -- Lists of calls that are played in place: one place more, and the whole list.
-use Rattle.std.proofs.Common.{◌≡◌, ℕ, suc, ◌+◌, ◌<◌, ◌≤◌, List, length, get_or, take, drop, set, sym, refl, ap, ◌∙◌, subst, subst₂, add-one, arith}
+use Rattle.std.proofs.Common.{◌≡◌, ℕ, ◌+◌, ◌<◌, ◌≤◌, List, length, get_or, take, drop, set, sym, ap, ◌∙◌, subst, subst₂, add-one, arith}
 use Rattle.std.proofs.lemmas.List.{drop-set-lt, drop-drop, take_all}
 use Rattle.guarantee.specs.Lists.{Chain}
 use Rattle.guarantee.proofs.Chains.{place_more}

@@ -6,7 +6,6 @@ use Rattle.guarantee.specs.Lists as lists
 use Rattle.standing.specs.Faults.{fault}
 use Rattle.standing.specs.Seen.{planned_seen}
 use Rattle.packer_laws.specs.States.{buffers}
-use Rattle.packer.specs.declared.request.Buffers.{Buffers}
 use Rattle.packer.specs.declared.request.Call.{Call}
 use Rattle.packer.specs.declared.request.Call.TheVariants.{Machine, Loop, Plan, Expand, Run}
 use Rattle.packer.specs.declared.request.Outcome.{Outcome}

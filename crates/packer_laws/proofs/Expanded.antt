@@ -1,18 +1,18 @@
 -- The call expand keeps the guarantee. Assumes nothing.
-use Rattle.std.proofs.Common.{◌≡◌, ℕ, ◌<◌, ◌≤◌, Bool, true, false, cond, ◌&&◌, leb, ◌⊎◌, List, length, Some, None, Ok, Err, Option, Result, sym, refl, ap, ◌∙◌, subst, inl, inr, arith}
+use Rattle.std.proofs.Common.{◌≡◌, ℕ, ◌<◌, ◌≤◌, cond, ◌&&◌, leb, length, Some, None, Ok, Err, Option, Result, sym, ◌∙◌, subst, inl, inr, arith}
 use Rattle.model.specs.declared.Parts.{Parts}
 use Rattle.std.proofs.lemmas.Bool.{cases_Bool, cases_lt, leb-true, le-leb, and_parts}
 use Rattle.model.specs.Schedule.{Schedule, stages}
 use Rattle.model.specs.Loop.{Loop}
-use Rattle.model.specs.Schemes.{Meaning, Lawful}
+use Rattle.model.specs.Schemes.{Meaning}
 use Rattle.model.specs.Domains.{Domain}
 use Rattle.listing.specs.declared.refusal.Unwritable.{Unwritable}
 use Rattle.listing.specs.declared.refusal.Unwritable.TheVariants.{Interval, Turns, Trips, Stages}
 use Rattle.listing.specs.Written.{Is, within, complaint}
 use Rattle.schedule.specs.Answers.{schedule_of}
-use Rattle.guarantee.specs.Calls.{expand, with_listing, plan_in, ListedBody, listing_in, Planned, expanded, refused, not_standing, many_trips}
+use Rattle.guarantee.specs.Calls.{expand, plan_in, ListedBody, listing_in, Planned, expanded, refused, not_standing, many_trips}
 use Rattle.guarantee.specs.Guarantees.{PlanHolds, listing_of, Guaranteed}
-use Rattle.guarantee.proofs.Steps.{KnownPlan, known_plan, expand_early, expand_refused, expand_accepted}
+use Rattle.guarantee.proofs.Steps.{known_plan, expand_early, expand_refused, expand_accepted}
 use Rattle.texts.specs.Records.{machine_seen}
 use Rattle.dependence.specs.Loops.{loop_seen}
 use Rattle.standing.specs.declared.Desk.{Desk}

@@ -1,5 +1,5 @@
 -- The call plan keeps the guarantee. Assumes nothing.
-use Rattle.std.proofs.Common.{◌≡◌, ℕ, List, [], Some, None, Ok, Err, vec_items, Result, sym, refl, ap, ◌∙◌, subst, inl, inr, arith}
+use Rattle.std.proofs.Common.{◌≡◌, ℕ, [], Some, None, Ok, Err, vec_items, Result, sym, ap, subst, inl, inr, arith}
 use Rattle.model.specs.Faults.{Fault}
 use Rattle.model.specs.Schemes.{Meaning, Lawful}
 use Rattle.model.specs.Domains.{Domain}

@@ -1,8 +1,8 @@
 -- The call run keeps the guarantee. Assumes nothing.
-use Rattle.std.proofs.Common.{◌≡◌, ℕ, zero, suc, ◌+◌, ◌-◌, ◌*◌, ◌^◌, ◌<◌, ◌≤◌, Bool, true, false, cond, ◌&&◌, eqb, ltb, leb, ◌⊎◌, List, [], ◌∷◌, map, length, get_or, take, pos, Some, None, Ok, Err, Result, sym, refl, ap, ◌∙◌, subst, inl, inr, mul-le-mul_right, mul-le-mul, arith, length-take}
+use Rattle.std.proofs.Common.{◌≡◌, ℕ, zero, suc, ◌+◌, ◌*◌, ◌^◌, ◌<◌, ◌≤◌, Bool, true, ◌⊎◌, List, [], ◌∷◌, map, length, get_or, take, pos, Some, Ok, Err, Result, sym, refl, ap, ◌∙◌, subst, inl, inr, mul-le-mul, arith, length-take}
 use mathlib.Core.Path.{fun_ext}
 use Rattle.std.proofs.lemmas.List.{length-map, get_or-take, get_or_past}
-use Rattle.std.proofs.lemmas.Bool.{cases_Bool, cases_lt, le-leb, lt-ltb, eq-eqb, ne_eqb, cases_eq}
+use Rattle.std.proofs.lemmas.Bool.{cases_lt, le-leb, lt-ltb, eq-eqb, ne_eqb, cases_eq}
 use Rattle.model.specs.declared.Timing.{Timing}
 use Rattle.model.specs.declared.Operator.TheVariants.{Plus, Minus, Times}
 use Rattle.model.specs.Limits.{timing}
@@ -14,8 +14,7 @@ use Rattle.model.specs.Schemes.{Meaning}
 use Rattle.model.specs.Domains.{Domain}
 use Rattle.model.specs.Plain.{nought}
 use Rattle.model.specs.Issues.{Form, passes, cycles}
-use Rattle.model.specs.Codes.{CodeRows, form_of}
-use Rattle.model.specs.Driving as driving
+use Rattle.model.specs.Codes.{form_of}
 use Rattle.model.specs.Driving.{all_below, fresh, finished, drive}
 use Rattle.model.specs.Pipelining.{InMemory}
 use Rattle.model.specs.Listing.{code_of_listing, passes_run}
@@ -30,8 +29,8 @@ use Rattle.engine_writes.specs.declared.waiting.Waiting.{Waiting}
 use Rattle.engine_writes.specs.Files.{entry_of}
 use Rattle.engine_slots.specs.Rows.{units_of as units_in}
 use Rattle.engine.specs.Answers.{timing_held, begins, lent, Driven}
-use Rattle.guarantee.specs.Calls.{Buffers, Call, run, with_listing, ListedBody, listing_in, Planned, Answer, ran, refused, short_files, outside_memory}
-use Rattle.guarantee.specs.Guarantees.{StandsSound, code_timings, listing_of, listed_form, values_in, waiting_in, machine_left, Guaranteed}
+use Rattle.guarantee.specs.Calls.{Buffers, Call, run, ListedBody, listing_in, Planned, Answer, ran, refused, short_files, outside_memory}
+use Rattle.guarantee.specs.Guarantees.{code_timings, listing_of, listed_form, values_in, waiting_in, machine_left, Guaranteed}
 use Rattle.guarantee.proofs.OnTexts.{on_machine}
 use Rattle.guarantee.proofs.Runs.{runs_pipelined}
 use Rattle.guarantee.proofs.Steps.{known_plan, few_listed, listing_plan, run_short, run_outside, run_accepted}

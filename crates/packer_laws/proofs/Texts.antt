@@ -1,5 +1,5 @@
 -- The calls that read a text keep the guarantee. Assumes nothing.
-use Rattle.std.proofs.Common.{◌≡◌, ℕ, List, [], Some, None, Ok, Err, Option, Result, sym, refl, ap, ◌∙◌, subst, arith}
+use Rattle.std.proofs.Common.{◌≡◌, ℕ, List, [], Some, None, Ok, Err, Option, Result, sym, refl, ap, subst, arith}
 use Rattle.model.specs.MachineText as texts
 use Rattle.model.specs.Schemes.{Meaning}
 use Rattle.model.specs.Domains.{Domain}

@@ -1,4 +1,4 @@
--- What `issues` and `iteration-of` say: operation j issues in cycle c for the iteration i with time j + i * interval = c.
+-- What `issues` and `iteration_of` say: operation j issues in cycle c for the iteration i with time j + i * interval = c.
 use Rattle.std.proofs.Common.{◌≡◌, ℕ, ◌+◌, ◌-◌, ◌*◌, ◌/◌, ◌%◌, ◌<◌, ◌≤◌, true, sym, ap, ◌∙◌, add-mul, div-add-mod', arith}
 use native.Mathlib.Nat.{add-mul-div_right, add-mul-mod_self_right}
 use Rattle.std.proofs.lemmas.Bool.{and_parts, and_from, eqb-true, leb-true, ltb-true, eq-eqb, le-leb, lt-ltb}

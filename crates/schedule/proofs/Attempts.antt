@@ -1,16 +1,16 @@
 -- What comes of an interval.
-use Rattle.std.proofs.Common.{◌≡◌, ℕ, ◌+◌, ◌*◌, ◌<◌, ◌≤◌, true, false, List, [], length, get_or, Some, None, Ok, Err, unwrap_or, sym, refl, ap, ◌∙◌, subst, arith}
+use Rattle.std.proofs.Common.{◌≡◌, ℕ, ◌*◌, ◌<◌, ◌≤◌, true, false, List, [], length, get_or, Some, None, Ok, Err, unwrap_or, sym, refl, ap, ◌∙◌, subst, arith}
 use mathlib.Core.Path.{fun_ext}
 use Rattle.model.specs.declared.Edge.{Edge}
 use Rattle.model.specs.declared.Timing.{Timing}
-use Rattle.model.specs.Loop.{Loop, total}
+use Rattle.model.specs.Loop.{Loop}
 use Rattle.model.specs.Limits.{hardware, GraphFits}
-use Rattle.model.specs.Schedule.{Schedule, stages}
+use Rattle.model.specs.Schedule.{stages}
 use Rattle.model.specs.Schemes.{Meaning}
 use Rattle.model.specs.Lives.{Limits}
 use Rattle.model.specs.ScheduleLives.{lives_table}
 use Rattle.model.specs.Search.{Outcome, found, failed}
-use Rattle.model.specs.Plan.{at_interval, steps_of, succeeds, found_at}
+use Rattle.model.specs.Plan.{steps_of, succeeds, found_at}
 use Rattle.schedule_laws.specs.Ready.{Ready, searched}
 use Rattle.schedule_laws.proofs.Intervals.{succeeds_then, fails_deep, fails_refused, fails_failed}
 use Rattle.schedule_laws.proofs.Readiness.{positive, whole_short, roomy, none_above, few_steps, by_heights, lives_limits}
@@ -23,8 +23,7 @@ use Rattle.search.specs.declared.outcome.NoSearch.{NoSearch}
 use Rattle.search.specs.declared.outcome.NoSearch.TheVariants.{Outside, Above, Narrow}
 use Rattle.registers.specs.Fits.{Fitted}
 use Rattle.lives.specs.Schedules.{scheduled, latencies}
-use Rattle.schedule.specs.declared.choice.Choice.{Choice}
-use Rattle.schedule.specs.Choices.{chosen, Accepts, Succeeded, DidNot}
+use Rattle.schedule.specs.Choices.{Succeeded, DidNot}
 
 module _ (ops : Loop) (es : List Edge) (us : List Timing) (units : List ℕ) (k : ℕ) (ready : Ready ops es us units k) (below : k < latencies us (length us)) where
   small : k ≤ 256

@@ -1,5 +1,5 @@
 -- What follows where the edges are those of the loop.
-use Rattle.std.proofs.Common.{◌≡◌, ℕ, ◌<◌, ◌≤◌, true, List, length, Ok, Err, sym, ap, ◌∙◌, subst, arith}
+use Rattle.std.proofs.Common.{◌≡◌, ℕ, ◌≤◌, true, List, length, Err, sym, ap, ◌∙◌, subst, arith}
 use Rattle.model.specs.declared.Edge.{Edge}
 use Rattle.model.specs.Loop.{Loop}
 use Rattle.model.specs.Edges.{edges}

@@ -1,6 +1,6 @@
 -- What the reading of a text answers, and what stands then.
 use Rattle.std.specs.Prelude.{◌≡◌, ℕ, true, List, Some, None, Ok, Err, Option, Result}
-use Rattle.model.specs.Faults.{Fault, text_fault, on_err}
+use Rattle.model.specs.Faults.{text_fault, on_err}
 use Rattle.model.specs.MachineText.{Machine, read_machine}
 use Rattle.model.specs.LoopText.{read_loop}
 use Rattle.model.specs.Loop.{Loop}

@@ -1,5 +1,5 @@
 -- What stands, as the definitions have it.
-use Rattle.std.specs.Prelude.{ℕ, List, [], map, Some, None, vec_items, Option}
+use Rattle.std.specs.Prelude.{List, [], map, Some, None, vec_items, Option}
 use Rattle.model.specs.MachineText as texts
 use Rattle.model.specs.Listing as listings
 use Rattle.bounds.specs.Answers.{evidence}

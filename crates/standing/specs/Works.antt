@@ -1,5 +1,5 @@
 -- What planning and writing answer, and what stands then.
-use Rattle.std.specs.Prelude.{◌≡◌, ℕ, ◌<◌, ◌≤◌, ◌⊎◌, List, length, Some, None, Ok, Err, vec_items, Option, Result}
+use Rattle.std.specs.Prelude.{◌≡◌, ℕ, ◌⊎◌, Some, None, Ok, Err, vec_items, Result}
 use Rattle.model.specs.declared.Parts.{Parts}
 use Rattle.model.specs.Schemes.{Meaning}
 use Rattle.listing.specs.declared.refusal.Unwritable.{Unwritable}
@@ -13,7 +13,6 @@ use Rattle.guarantee.specs.Calls.{with_plan, loop_in, plan_in, not_standing, no_
 use Rattle.standing.specs.declared.fault.PackFault.{PackFault}
 use Rattle.standing.specs.declared.plan.Body.{Body}
 use Rattle.standing.specs.declared.plan.Plan.{Plan}
-use Rattle.standing.specs.declared.standing.Standing.{Standing}
 use Rattle.standing.specs.declared.standing.Standing.TheVariants.{Listing}
 use Rattle.standing.specs.declared.desk.Desk.{Desk}
 use Rattle.standing.specs.Faults.{fault}

@@ -1,11 +1,9 @@
-use Rattle.std.proofs.Common.{◌≡◌, ◌<◌, true, [], length, get_or, sym, refl, ap, ◌∙◌, subst, arith}
+use Rattle.std.proofs.Common.{◌≡◌, true, [], sym, ap, ◌∙◌, subst, arith}
 use Rattle.model.specs.Limits.{hardware}
 use Rattle.model.specs.Loop.{makes, op}
 use Rattle.model.specs.Schedule.{Schedule}
-use Rattle.model.specs.Lives.{LifeWithin}
 use Rattle.registers.specs.Views.{table}
 use Rattle.dependence.specs.Loops.{loop_seen}
-use Rattle.schedule_laws.proofs.Tables.{each_within}
 use Rattle.lives.specs.Schedules.{scheduled, LivesOf}
 use Rattle.lives.proofs.Loops.{count_is, seen_at}
 use Rattle.lives.proofs.Steps.{life_then, no_room, no_push, table_first, table_then, table_skip, table_last}

@@ -1,4 +1,4 @@
-use Rattle.std.proofs.Common.{◌≡◌, ℕ, []}
+use Rattle.std.proofs.Common.{◌≡◌, []}
 use Rattle.model.specs.Limits.{hardware}
 use Rattle.model.specs.ScheduleLives.{lives_of}
 use Rattle.registers.specs.Views.{table}

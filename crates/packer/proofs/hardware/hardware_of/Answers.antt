@@ -1,4 +1,3 @@
-use Rattle.std.proofs.Common.{◌≡◌}
 use Rattle.model.specs.Soundness.{units_of}
 use Rattle.texts.specs.Records.{machine_seen}
 use Rattle.packer_laws.proofs.Ran.{units_same}

@@ -1,6 +1,5 @@
-use Rattle.std.proofs.Common.{◌≡◌, ◌<◌, ◌≤◌, length, sym, refl, ap, ◌∙◌, subst, arith}
+use Rattle.std.proofs.Common.{sym, refl, ◌∙◌, subst, arith}
 use Rattle.dependence.specs.Loops.{loop_seen}
-use Rattle.lives.specs.Schedules.{latencies}
 use Rattle.schedule_laws.proofs.Readiness.{ready_later}
 use Rattle.schedule.specs.Choices.{ChoiceOf}
 use Rattle.schedule.proofs.Plans.{is_short, sequential_limits, reached_next, reached_found, reached_none, reached_sequence}

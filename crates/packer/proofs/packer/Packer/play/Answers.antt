@@ -1,4 +1,4 @@
-use Rattle.std.proofs.Common.{◌≡◌, refl, subst}
+use Rattle.std.proofs.Common.{refl, subst}
 use Rattle.guarantee.proofs.Chains.{plain_chain}
 use Rattle.packer_laws.specs.States.{state}
 use Rattle.packer.specs.Requests.{entry_seen}
@@ -16,14 +16,13 @@ loop-entry-preserved g c =
     let t = state after.scheme after.desk in (
       rest_more c.args.entries.now now.entries now.entry-index now.invariant.0 c.replace.new.dest,
       λ whole.
-      let so_far = now.invariant.1 whole in
-      let made = c.exchange-answered.ensures so_far.1 in
-      (
-        one_more c.args.entries.now now.entries now.entry-index now.invariant.0 R m t c.exchange-answered.result c.entry-item.result (state first.scheme first.desk)
-            c.loop-entry-test.true now.auto.entries so_far.0 (subst (λ x. R m x c.exchange-answered.result t) c.replace-asked.ensures.value made.0)
-            c.replace.new.dest c.replace.ensures.after,
-        made.1,
-      ),
+          let so_far = now.invariant.1 whole in
+          let made = c.exchange-answered.ensures so_far.1 in (
+            one_more c.args.entries.now now.entries now.entry-index now.invariant.0 R m t c.exchange-answered.result c.entry-item.result (state first.scheme first.desk)
+                c.loop-entry-test.true now.auto.entries so_far.0 (subst (λ x. R m x c.exchange-answered.result t) c.replace-asked.ensures.value made.0)
+                c.replace.new.dest c.replace.ensures.after,
+            made.1,
+          ),
     )
 
 pub returns : goal.returns

@@ -1,4 +1,4 @@
-use Rattle.std.proofs.Common.{◌≡◌, ℕ, ◌<◌, ◌≤◌, true, false, ◌⊎◌, length, Ok, sym, refl, ◌∙◌, subst, inl, inr, ⊎_elim, arith}
+use Rattle.std.proofs.Common.{◌≡◌, ℕ, ◌<◌, ◌≤◌, true, false, ◌⊎◌, length, sym, refl, ◌∙◌, subst, inl, inr, arith}
 use Rattle.guarantee.specs.Calls.{run, ran}
 use Rattle.guarantee.specs.Guarantees.{Guaranteed}
 use Rattle.packer_laws.specs.States.{state, buffers}

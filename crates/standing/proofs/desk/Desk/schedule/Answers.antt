@@ -1,4 +1,4 @@
-use Rattle.std.proofs.Common.{◌≡◌, Ok, Err, refl, ◌∙◌, subst, inr}
+use Rattle.std.proofs.Common.{Ok, Err, refl, ◌∙◌, subst, inr}
 use Rattle.texts.specs.Records.{machine_seen}
 use Rattle.dependence.specs.Loops.{loop_seen}
 use Rattle.schedule.specs.Answers.{ScheduleOf}
