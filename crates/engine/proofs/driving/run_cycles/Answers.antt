@@ -7,8 +7,8 @@ use Rattle.engine.proofs.Driven.{at_first, one_more, stops, ends}
 use Rattle.engine.proofs.driving.run_cycles.Goals as goal
 use Rattle.engine.proofs.driving.run_cycles.Goals.{then-row-run, else-row-run}
 
-some-interval : (passes interval : ℕ) → 0 < passes * interval → 0 < interval
-some-interval passes interval h = elim (cases_eq interval 0) [
+some_interval : (passes interval : ℕ) → 0 < passes * interval → 0 < interval
+some_interval passes interval h = elim (cases_eq interval 0) [
   | inl e ↦ absurd (omega (arith, rw (e, mul-zero) at h))
   | inr z ↦ omega arith
 ]
@@ -21,7 +21,7 @@ loop-cycle-init g c =
     let running = at_first g.D.Domain.operations (units_of c.args.hardware.now.units) c.args.run.interval c.args.run.trips scheme.file
     (form_of scheme.resolve c.args.hardware.now.timings c.args.run.interval (g.C.Code.form c.args.code.now))
     c.args.memory.now c.args.values.now c.args.waiting.now some c.new-tables.result new.status new.taken new.dues in
-    (omega arith, (λ h. some-interval c.args.run.passes c.args.run.interval (omega (arith, c.requires.held.1.1))), running.1.1.registers, running)
+    (omega arith, (λ h. some_interval c.args.run.passes c.args.run.interval (omega (arith, c.requires.held.1.1))), running.1.1.registers, running)
 
 pub returns-in-Some : goal.returns-in-Some
 returns-in-Some g c =

@@ -3,7 +3,7 @@ use Rattle.std.proofs.lemmas.Bool.{ne_eqb}
 use Rattle.guest_scheme.proofs.asking.still_apart.Goals as goal
 
 pub returns : goal.returns
-returns g c n alive-a alive-b differ =
+returns g c n alive_a alive_b differ =
     let taken = c.in_ok-turns.ensures in
     let same = c.in-None.ensures.same in
     let s = c.fit.new.self in
@@ -13,12 +13,12 @@ returns g c n alive-a alive-b differ =
     let b = c.args.b in
     let turns = taken.turns ∙ ap (λ x. (meaning x).turns) (sym same) in
     let many = ap (λ x. (meaning x).variables) same ∙ taken.variables in
-    let first = c.register-first.ensures turns (omega (arith, many, alive-a.known)) (omega arith) (omega arith) in
-    let second = c.register-second.ensures turns (omega (arith, many, alive-b.known)) (omega arith) (omega arith) in
+    let first = c.register-first.ensures turns (omega (arith, many, alive_a.known)) (omega arith) (omega arith) in
+    let second = c.register-second.ensures turns (omega (arith, many, alive_b.known)) (omega arith) (omega arith) in
     let at_a = first ∙ ap (λ x. place x a.variable (a.iteration - 0)) same in
     let at_b = second ∙ ap (λ x. place x b.variable (b.iteration - 0)) same in
     let zero_a : a.iteration - 0 ≡ a.iteration = omega arith in
-    let zero-b : b.iteration - 0 ≡ b.iteration = omega arith in
-    let at-a' = at_a ∙ ap (place s a.variable) zero_a in
-    let at-b' = at_b ∙ ap (place s b.variable) zero-b in
-    ap not (ne_eqb _ _ (λ e. differ (taken.apart a.variable a.iteration b.variable b.iteration n alive-a alive-b (sym at-a' ∙ e ∙ at-b'))))
+    let zero_b : b.iteration - 0 ≡ b.iteration = omega arith in
+    let at_a' = at_a ∙ ap (place s a.variable) zero_a in
+    let at_b' = at_b ∙ ap (place s b.variable) zero_b in
+    ap not (ne_eqb _ _ (λ e. differ (taken.apart a.variable a.iteration b.variable b.iteration n alive_a alive_b (sym at_a' ∙ e ∙ at_b'))))
