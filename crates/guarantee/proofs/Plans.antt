@@ -41,7 +41,7 @@ module _ (m : Machine) (ops : Loop) (sm : sound_machine m ≡ true) (sl : sound_
         no_denser = no_smaller_interval ops (hardware m ops) (length m.classes) p.minimum on.some_units searched.is.minimum;
         excludes = excluding ops (hardware m ops) (length m.classes) p.minimum p.evidence evidence;
         searched = searched;
-        sound = sound_same ops (hardware m ops) on.formed p.schedule searched.schedule searched.alike searched.is.height now.need now.file p.minimum p.steps
+        sound = sound_same ops (hardware m ops) on.formed p.schedule searched.schedule searched.tells.alike searched.is.height now.need now.file p.minimum p.steps
             (plan_is_sound ops (hardware m ops) (length m.classes) now.need now.file p.minimum (plans.planned searched.schedule p.steps) on searched.is);
         stages = deep;
         lives = record { lawful = lawful; variables = taken.variables; apart = subst (Apart (lives_table ops (hardware m ops) p.schedule)) (sym placed) taken.apart };

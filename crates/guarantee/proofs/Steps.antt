@@ -179,7 +179,7 @@ module _ {S V : Type 0} (meaning : S → Meaning) (place : S → ℕ → ℕ →
       Guaranteed meaning place dom s plan (planned p) plan (record { stands = with_plan b.machine b.ops p; scheme = after; slots = [] })
   plan_accepted b after p e sm sl lawful placed is evidence deep taken = record {
     same = needs_some was done (with_plan b.machine b.ops p.schedule) (loop_in was) (Planning dom _ _ was done (with_plan b.machine b.ops p.schedule)) b (plain_loop s.stands ∙ e)
-        (p.minimum, (plans.planned is.schedule p.steps, (is.is, (p.schedule, (is.alike, (refl, refl))))));
+        (p.minimum, (plans.planned is.schedule p.steps, (is.is, (p.schedule, (is.tells, (refl, refl))))));
     reports = (refl, refl, refl, record { is = refl; accepts = taken });
     sound = (sm, sl, plan_holds b.machine b.ops sm sl p (meaning s.scheme) (meaning after) (place after) lawful placed is evidence deep taken);
     need = taken.need;

@@ -1,4 +1,4 @@
--- THE PLAIN PACKER: the same calls, with the plain loop for a run. It keeps of a plan its schedule alone: the interval, and the times of the loop's operations.
+-- THE PLAIN PACKER: the same calls, with the plain loop for a run. It keeps of a plan its schedule alone: the interval, and the times of the loop's operations, with 0 behind them.
 use Rattle.std.specs.Prelude.{◌≡◌, ℕ, ◌<◌, ◌≤◌, ◌⊎◌, List, length, Some, None, Ok, Err, Option, Result}
 use Rattle.model.specs.Faults.{Fault, text_fault, on_err}
 use Rattle.model.specs.MachineText.{Machine, read_machine}
@@ -12,7 +12,7 @@ use Rattle.model.specs.Domains.{Domain}
 use Rattle.model.specs.Plain.{plain}
 use Rattle.model.specs.Pipelining.{InMemory}
 use Rattle.model.specs.Plan.{Plan, planned, refused, IsPlan}
-use Rattle.schedule_laws.specs.Alike.{Alike}
+use Rattle.schedule_laws.specs.Alike.{Tells}
 use Rattle.guarantee.specs.Calls.{Buffers, Call, machine, loop, plan, expand, run, Standing, with_machine, with_loop, with_plan, with_listing, machine_in, Body, loop_in, PlannedBody, plan_in, ListedBody, listing_in, not_standing, no_schedule, many_trips, short_files, outside_memory}
 
 -- What the plain packer replies: a call is done, a run leaves this memory, or a call is refused.
@@ -42,7 +42,7 @@ module _ {V : Type 0} (s : Standing Schedule) (r : Reply V) (t : Standing Schedu
 
   -- Was some interval's schedule, or the sequential one, taken by the register scheme? (8)
   abbrev pub ByPlan : Machine → Loop → Plan → Type 0
-  ByPlan m ops (planned w steps) = (v : Schedule) × (Alike (length ops) v w × Done (with_plan m ops v))
+  ByPlan m ops (planned w steps) = (v : Schedule) × (Tells (length ops) v w × Done (with_plan m ops v))
   ByPlan m ops refused = Refusal no_schedule
 
   -- Is the trip count at most 4,096? (3)

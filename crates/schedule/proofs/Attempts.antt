@@ -11,9 +11,10 @@ use Rattle.model.specs.Lives.{Limits}
 use Rattle.model.specs.ScheduleLives.{lives_table}
 use Rattle.model.specs.Search.{Outcome, found, failed}
 use Rattle.model.specs.Plan.{steps_of, succeeds, found_at}
-use Rattle.schedule_laws.specs.Ready.{Ready, searched}
+use Rattle.schedule_laws.specs.Ready.{Ready, heights, searched}
 use Rattle.schedule_laws.proofs.Intervals.{succeeds_then, fails_deep, fails_refused, fails_failed}
 use Rattle.schedule_laws.proofs.Readiness.{positive, whole_short, roomy, none_above, few_steps, by_heights, lives_limits}
+use Rattle.schedule_laws.proofs.Rest.{RestFound, search_rest}
 use Rattle.reservation.specs.Times.{times_of}
 use Rattle.reservation.specs.declared.time_table.TimeTable.{TimeTable}
 use Rattle.search.specs.Answers.{outcome, Inside, SearchOf}
@@ -88,6 +89,7 @@ module _ (ops : Loop) (es : List Edge) (us : List Timing) (units : List ℕ) (k 
         succeeds = subst (λ x. succeeds ops (hardware us units) (meaning before).need (meaning before).file k x ≡ true) e
             (succeeds_then ops (hardware us units) (meaning before).need (meaning before).file k (scheduled k xs).time steps (omega arith) r.within);
         found = sym (ap (found_at k) e);
+        rest = subst (RestFound (length ops)) (sym e) (search_rest es (hardware us units) (length ops) (heights es (length ops) k) k);
         steps = ap steps_of e;
         few = omega (arith, few_steps ops es us units k ready, ap steps_of e);
         accepts = record { fitted = r; stages = s };

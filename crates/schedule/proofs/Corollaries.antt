@@ -25,7 +25,7 @@ module _ {S : Type 0} (meaning : S → Meaning) (place : S → ℕ → ℕ → �
   pub sound_schedule : (p : Scheduled) → (h : Success meaning place m ops es before after p) →
       SoundSchedule ops (hardware m ops) h.plan.is.height (meaning before).need (meaning before).file p.minimum.value (schedule_of p) p.steps
   sound_schedule p h =
-      sound_same ops (hardware m ops) (on_machines m ops sm sl).formed (schedule_of p) h.plan.schedule h.plan.alike h.plan.is.height (meaning before).need (meaning before).file
+      sound_same ops (hardware m ops) (on_machines m ops sm sl).formed (schedule_of p) h.plan.schedule h.plan.tells.alike h.plan.is.height (meaning before).need (meaning before).file
       p.minimum.value p.steps
       (plan_is_sound ops (hardware m ops) (length m.classes) (meaning before).need (meaning before).file p.minimum.value (planned h.plan.schedule p.steps) (on_machines m ops sm sl)
       (record {

@@ -84,7 +84,7 @@ module _ (m : Machine) (ops : Loop) (es : List Edge) (us : List Timing) (units :
           let at = subst₂ (λ x y. ChoiceOf meaning place ops es x y min.value before after (Some c)) timings counts d in
           record {
             fits = graph_fits h.0;
-            plan = record { schedule = at.0; alike = at.1.0; is = plan_is _ at.1.1 };
+            plan = record { schedule = at.0; tells = at.1.0; is = plan_is _ at.1.1 };
             evidence = evidence_of;
             fitted = at.1.2.fitted;
             stages = at.1.2.stages;

@@ -9,7 +9,7 @@ use Rattle.model.specs.Schemes.{Meaning}
 use Rattle.model.specs.Lives.{Limits}
 use Rattle.model.specs.ScheduleLives.{lives_table}
 use Rattle.model.specs.Plan.{planned}
-use Rattle.schedule_laws.specs.Alike.{Alike}
+use Rattle.schedule_laws.specs.Alike.{Tells}
 use Rattle.schedule_laws.specs.Ready.{Ready, heights}
 use Rattle.schedule_laws.proofs.Alike.{alike_self, table_same}
 use Rattle.schedule_laws.proofs.Intervals.{from_here, plan_found, plan_next, plan_sequential, plan_refused}
@@ -33,12 +33,12 @@ module _ (ops : Loop) (es : List Edge) (us : List Timing) (units : List ℕ) (lo
   pub is_short : Short us
   is_short = (omega (arith, ready.each, ready.formed.few), omega (arith, whole_is, whole_short ops es us units lowest ready))
 
-  sequential_is : (s : Sequence) → SequenceOf us (Some s) → Alike (length ops) (scheduled s.interval s.times) (sequential ops (hardware us units))
+  sequential_is : (s : Sequence) → SequenceOf us (Some s) → Tells (length ops) (scheduled s.interval s.times) (sequential ops (hardware us units))
   sequential_is s h = sequence_is ops es us units lowest ready s.interval (λ j. get_or s.times j 0) h.1 h.2
 
   sequential_table : (s : Sequence) → SequenceOf us (Some s) →
       lives_table ops (hardware us units) (scheduled s.interval s.times) ≡ lives_table ops (hardware us units) (sequential ops (hardware us units))
-  sequential_table s h = table_same ops (scheduled s.interval s.times) (sequential ops (hardware us units)) (hardware us units) (sequential_is s h)
+  sequential_table s h = table_same ops (scheduled s.interval s.times) (sequential ops (hardware us units)) (hardware us units) (sequential_is s h).alike
 
   pub sequential_limits : (s : Sequence) → SequenceOf us (Some s) → Limits (lives_table ops (hardware us []) (scheduled s.interval s.times))
   sequential_limits s h =
@@ -61,7 +61,7 @@ module _ (ops : Loop) (es : List Edge) (us : List Timing) (units : List ℕ) (lo
         let at = subst (λ s. Succeeded meaning place ops es us units k s after c) e d in (
           chosen c,
           (
-            alike_self (length ops) (chosen c),
+            record { alike = alike_self (length ops) (chosen c); rest = at.rest },
             sym reached ∙
                 (plan_found ops es hw (heights es (length ops)) (meaning entry).need (meaning entry).file k steps (omega (arith, whole_is)) at.succeeds ∙
                 ap₂ planned at.found (ap (λ t. steps + t) (sym at.steps))),

@@ -8,7 +8,7 @@ use Rattle.model.specs.Schedule.{Schedule, stages as stages_in}
 use Rattle.model.specs.ScheduleLives.{lives_table}
 use Rattle.model.specs.Schemes.{Meaning}
 use Rattle.model.specs.Plan.{Plan, planned, refused, steps_of, succeeds, found_at, plan}
-use Rattle.schedule_laws.specs.Alike.{Alike}
+use Rattle.schedule_laws.specs.Alike.{Tells}
 use Rattle.schedule_laws.specs.Ready.{heights, searched}
 use Rattle.registers.specs.Fits.{Fitted}
 use Rattle.lives.specs.Schedules.{scheduled}
@@ -28,6 +28,7 @@ pub record Accepts {S : Type 0} (meaning : S → Meaning) (place : S → ℕ →
 pub record Succeeded {S : Type 0} (meaning : S → Meaning) (place : S → ℕ → ℕ → ℕ) (ops : Loop) (es : List Edge) (us : List Timing) (units : List ℕ) (k : ℕ) (before after : S) (c : Choice) : Type 0 where
   pub succeeds : succeeds ops (hardware us units) (meaning before).need (meaning before).file k (searched ops es us units k) ≡ true
   pub found : found_at k (searched ops es us units k) ≡ chosen c
+  pub rest : (j : ℕ) → length ops ≤ j → (chosen c).time j ≡ 0
   pub steps : c.steps ≡ steps_of (searched ops es us units k)
   pub few : c.steps ≤ 192
   pub accepts : Accepts meaning place ops us units before after c
@@ -48,5 +49,5 @@ plan_of meaning ops es us units lowest before = plan ops es (hardware us units) 
 
 abbrev pub ChoiceOf : {S : Type 0} → (S → Meaning) → (S → ℕ → ℕ → ℕ) → Loop → List Edge → List Timing → List ℕ → ℕ → S → S → Option Choice → Type 0
 ChoiceOf meaning place ops es us units lowest before after (Some c) =
-    (w : Schedule) × (Alike (length ops) (chosen c) w × (plan_of meaning ops es us units lowest before ≡ planned w c.steps) × Accepts meaning place ops us units before after c)
+    (w : Schedule) × (Tells (length ops) (chosen c) w × (plan_of meaning ops es us units lowest before ≡ planned w c.steps) × Accepts meaning place ops us units before after c)
 ChoiceOf meaning place ops es us units lowest before after None = (plan_of meaning ops es us units lowest before ≡ refused) × (after ≡ before)

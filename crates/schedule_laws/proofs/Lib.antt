@@ -4,3 +4,4 @@ pub mod Intervals
 pub mod Tables
 pub mod Times
 pub mod Readiness
+pub mod Rest

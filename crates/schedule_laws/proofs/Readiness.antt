@@ -1,7 +1,7 @@
 -- What follows where a plan can be made.
 use Rattle.std.proofs.Common.{◌≡◌, ℕ, ◌<◌, ◌≤◌, cond, ltb, List, [], length, refl, ap, ◌∙◌, subst, ap₂, arith}
 use Rattle.std.proofs.ByRecursion.{All-get_or}
-use Rattle.std.proofs.lemmas.Bool.{lt-ltb}
+use Rattle.std.proofs.lemmas.Bool.{lt-ltb, le-ltb}
 use Rattle.model.specs.declared.Edge.{Edge}
 use Rattle.model.specs.declared.Timing.{Timing}
 use Rattle.model.specs.Loop.{Loop, Hardware, total}
@@ -16,7 +16,7 @@ use Rattle.pipelining.proofs.Length.{stages_by_times}
 use Rattle.pipelining.proofs.Theorem.{lives_last}
 use Rattle.search_laws.specs.Bounded.{Roomy}
 use Rattle.search_laws.proofs.Plan.{above_minimum, roomy_from, sequential_stands}
-use Rattle.schedule_laws.specs.Alike.{Alike}
+use Rattle.schedule_laws.specs.Alike.{Tells}
 use Rattle.schedule_laws.specs.Ready.{Ready, heights, searched}
 use Rattle.schedule_laws.proofs.Intervals.{rounds_are_heights, search_steps}
 use Rattle.schedule_laws.proofs.Tables.{table_any}
@@ -65,10 +65,13 @@ module _ (ops : Loop) (es : List Edge) (us : List Timing) (units : List ℕ) (k 
 
   -- the sequential times
   pub sequence_is : (interval : ℕ) (time : ℕ → ℕ) → interval ≡ total hw.latency (length us) →
-      ((j : ℕ) → time j ≡ cond (ltb j (length us)) (total hw.latency j) 0) → Alike (length ops) (at_interval interval time) (sequential ops hw)
+      ((j : ℕ) → time j ≡ cond (ltb j (length us)) (total hw.latency j) 0) → Tells (length ops) (at_interval interval time) (sequential ops hw)
   sequence_is interval time a b = record {
-    interval = a ∙ ap (total hw.latency) ready.each;
-    times = λ j h. b j ∙ (let below : j < length us = omega (arith, ready.each) in rw (lt-ltb j (length us) below) refl);
+    alike = record {
+      interval = a ∙ ap (total hw.latency) ready.each;
+      times = λ j h. b j ∙ (let below : j < length us = omega (arith, ready.each) in rw (lt-ltb j (length us) below) refl);
+    };
+    rest = λ j h. b j ∙ (let past : length us ≤ j = omega (arith, ready.each) in rw (le-ltb j (length us) past) refl);
   }
 
   pub sequence_limits : Limits (lives_table ops hw (sequential ops hw))
