@@ -52,7 +52,8 @@ fn run_outcome(answer: Result<usize, PackFault>) -> Outcome
 impl<S: Scheme, D: Domain> Packer<S, D> {
     // Makes a call, and hands it back with what came of it.
     pub fn make(&mut self, call: Call<D::Value>) -> Entry<D::Value>
-        ensures { MadeOne S.meaning S.place D.operations self.old.scheme self.old.desk call result self.new.scheme self.new.desk }
+        ensures keeps { MadeOne S.meaning S.place D.operations self.old.scheme self.old.desk call result self.new.scheme self.new.desk }
+        ensures domain { self.new.domain ≡ self.old.domain }
     {
         match call {
             Call::Machine(text) => {
@@ -90,9 +91,10 @@ impl<S: Scheme, D: Domain> Packer<S, D> {
 
     // A call that was made before stays as it is.
     fn exchange(&mut self, entry: Entry<D::Value>) -> Entry<D::Value>
-        ensures { Whole S.meaning S.place D.operations self.old.scheme self.old.desk →
+        ensures keeps { Whole S.meaning S.place D.operations self.old.scheme self.old.desk →
             PlayedOne S.meaning S.place D.operations (state self.old.scheme self.old.desk) entry result (state self.new.scheme self.new.desk) ×
             Whole S.meaning S.place D.operations self.new.scheme self.new.desk }
+        ensures domain { self.new.domain ≡ self.old.domain }
     {
         match entry {
             Entry::Asked(call) => self.make(call),
@@ -102,8 +104,9 @@ impl<S: Scheme, D: Domain> Packer<S, D> {
 
     // Makes each call of a list in its place, in order, and leaves in its place what came of it.
     pub fn play(&mut self, entries: &mut [Entry<D::Value>])
-        ensures { Whole S.meaning S.place D.operations self.old.scheme self.old.desk →
+        ensures keeps { Whole S.meaning S.place D.operations self.old.scheme self.old.desk →
             Plays S.meaning S.place D.operations self.old.scheme self.old.desk entries.old entries.new self.new.scheme self.new.desk }
+        ensures domain { self.new.domain ≡ self.old.domain }
     {
         for entry in entries.iter_mut() {
             let asked = mem::replace(entry, Entry::Asked(Call::Plan));

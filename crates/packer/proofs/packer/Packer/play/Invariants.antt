@@ -6,7 +6,7 @@ use Rattle.packer.proofs.packer.Packer.play.Given as goal
 
 abbrev pub invariant-loop-entry : goal.invariant-loop-entry
 invariant-loop-entry g l =
-    (drop l.entry-index l.entries ≡ drop l.entry-index l.initial.entries) ×
+    (l.self.domain ≡ l.initial.self.domain) × (drop l.entry-index l.entries ≡ drop l.entry-index l.initial.entries) ×
     (Whole g.S.Scheme.meaning g.S.Scheme.place g.D.Domain.operations l.initial.self.scheme l.initial.self.desk →
     Chain (PlayedOne g.S.Scheme.meaning g.S.Scheme.place g.D.Domain.operations) (state l.initial.self.scheme l.initial.self.desk)
     (take l.entry-index l.initial.entries) (take l.entry-index l.entries) (state l.self.scheme l.self.desk) ×
