@@ -1,0 +1,38 @@
+// How a list is made, read and filled.
+ghost use Rattle.std.specs.Prelude.{◌≡◌, ◌≤◌, [], length};
+ghost use Rattle.few.specs.Held.{held, Pushed};
+
+use crate::list::{Few, Full};
+
+impl<T: Copy, const N: usize> Few<T, N> {
+    // No item. The value stands at places that say nothing.
+    pub fn new(blank: T) -> Few<T, N>
+        ensures { held result ≡ [] }
+    {
+        Few {
+            items: [blank; N],
+            len: 0,
+        }
+    }
+
+    // The items, in order.
+    pub fn as_slice(&self) -> &[T]
+        ensures items { result.now ≡ held self.now }
+        ensures few { length result.now ≤ N }
+    {
+        let items = &self.items[..];
+        &items[..self.len]
+    }
+
+    // Puts an item behind the others. Where there are N it changes nothing.
+    pub fn push(&mut self, item: T) -> Result<(), Full>
+        ensures { Pushed N (held self.old) item result (held self.new) }
+    {
+        if self.len >= N {
+            return Err(Full);
+        }
+        self.items[self.len] = item;
+        self.len += 1;
+        Ok(())
+    }
+}
