@@ -1,7 +1,8 @@
 -- The reader's tokens as the definitions have them.
 use Rattle.std.specs.Prelude.{ℕ, Bool, true, not, List, ◌∷◌, drop, Some, None, Option, ◌==◌}
 use Rattle.model.specs.Shapes.{word, number, operand, other}
-use Rattle.model.specs.Lines.{Lexeme, lexemes}
+use Rattle.std.specs.Borrow.{Bor}
+use Rattle.model.specs.Lines.{Line, Lexeme, lexemes}
 use Rattle.reader.specs.declared.token.Token.{Token}
 use Rattle.reader.specs.declared.token.Token.TheVariants.{Word, Number, Operand, Other}
 
@@ -27,3 +28,7 @@ taken (Some t) rest = seen t ∷ rest
 -- a byte that ends no line
 abbrev pub inside : ℕ → Bool
 inside b = not (b == 10)
+
+-- a line with its number
+abbrev pub line_seen : ℕ × Bor (List ℕ) → Line
+line_seen l = record { number = l.0; bytes = l.1.now }

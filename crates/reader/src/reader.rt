@@ -28,32 +28,20 @@ fn token_of<'a>(text: &'a [u8], line: usize, at: usize) -> Token<'a>
     }
 }
 
-// Where the spaces from `from` on end.
-fn skip_spaces(s: &[u8], from: usize) -> usize
-    requires { from ≤ length s.now }
-    ensures value { result ≡ from + prefix_len space (drop from s.now) }
+// How many spaces a text begins with.
+fn space_len(s: &[u8]) -> usize
+    ensures value { result ≡ prefix_len space s.now }
     ensures within { result ≤ length s.now }
-    ensures after { from ≤ result }
 {
-    let mut n = from;
-    while n < s.len() && s[n] == b' ' {
-        n += 1;
-    }
-    n
+    s.iter().take_while(|b| **b == b' ').count()
 }
 
-// Where the bytes from `from` on that are no spaces end.
-fn run_end(s: &[u8], from: usize) -> usize
-    requires { from ≤ length s.now }
-    ensures value { result ≡ from + prefix_len solid (drop from s.now) }
+// How many bytes that are no spaces a text begins with.
+pub fn solid_len(s: &[u8]) -> usize
+    ensures value { result ≡ prefix_len solid s.now }
     ensures within { result ≤ length s.now }
-    ensures after { from ≤ result }
 {
-    let mut n = from;
-    while n < s.len() && s[n] != b' ' {
-        n += 1;
-    }
-    n
+    s.iter().take_while(|b| **b != b' ').count()
 }
 
 #[derive(Clone, Copy)]
@@ -80,8 +68,8 @@ impl<'a> Reader<'a> {
         ensures line { self.new.line ≡ self.old.line }
     {
         let text = self.text;
-        let start = skip_spaces(text, self.at);
-        let end = run_end(text, start);
+        let start = self.at + space_len(&text[self.at..]);
+        let end = start + solid_len(&text[start..]);
         self.at = end;
         if start == end {
             return None;

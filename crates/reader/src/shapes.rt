@@ -1,8 +1,8 @@
 // The shapes of a token.
-ghost use Rattle.std.specs.Prelude.{◌≡◌, ℕ, ◌+◌, ◌<◌, ◌≤◌, Bool, true, false, length, drop, slice_index};
+ghost use Rattle.std.specs.Prelude.{◌≡◌, ℕ, ◌+◌, ◌<◌, ◌≤◌, Bool, true, false, ◌&&◌, length, drop, slice_index};
 ghost use Rattle.std.specs.List.{prefix_len};
 ghost use Rattle.std.specs.Str.{bytes_eq};
-ghost use Rattle.model.specs.Shapes.{every, between, letter, is_name, is_number, is_negative, is_earlier, name_of, after_at};
+ghost use Rattle.model.specs.Shapes.{every, between, digit, letter, is_name, is_number, is_negative, is_earlier, name_of, after_at};
 
 // Whether two byte strings are the same.
 pub fn same(word: &[u8], text: &[u8]) -> bool
@@ -15,24 +15,26 @@ pub fn same(word: &[u8], text: &[u8]) -> bool
 pub fn all_between(s: &[u8], lo: u8, hi: u8) -> bool
     ensures { result ≡ every (between lo hi) s.now }
 {
-    for b in s {
-        if *b < lo || *b > hi {
-            return false;
-        }
-    }
-    true
+    s.iter().all(|b| (lo..=hi).contains(b))
 }
 
 pub(crate) fn is_name(s: &[u8]) -> bool
     ensures { result ≡ is_name s.now }
 {
-    s.len() >= 1 && s.len() <= 8 && all_between(s, b'a', b'z')
+    (1..=8).contains(&s.len()) && all_between(s, b'a', b'z')
+}
+
+// Whether there are 1 to `most` decimal digits.
+pub fn is_digits(s: &[u8], most: usize) -> bool
+    ensures { result ≡ (between 1 most (length s.now) && every digit s.now) }
+{
+    (1..=most).contains(&s.len()) && all_between(s, b'0', b'9')
 }
 
 pub(crate) fn is_number(s: &[u8]) -> bool
     ensures { result ≡ is_number s.now }
 {
-    s.len() >= 1 && s.len() <= 5 && all_between(s, b'0', b'9')
+    is_digits(s, 5)
 }
 
 // How many letters a token begins with.
@@ -40,56 +42,48 @@ fn letters(s: &[u8]) -> usize
     ensures value { result ≡ prefix_len letter s.now }
     ensures within { result ≤ length s.now }
 {
-    let mut n = 0;
-    while n < s.len() && s[n] >= b'a' && s[n] <= b'z' {
-        n += 1;
-    }
-    n
+    s.iter().take_while(|b| b.is_ascii_lowercase()).count()
 }
 
 // What is left of a token after its first n bytes.
 pub fn tail(s: &[u8], n: usize) -> &[u8]
     ensures { result.now ≡ drop n s.now }
 {
-    if n >= s.len() {
-        return b"";
-    }
-    &s[n..]
+    s.get(n..).unwrap_or(b"")
 }
 
 // The byte at a place; 0 past the end.
 pub fn byte_at(s: &[u8], n: usize) -> u8
     ensures { result ≡ slice_index s.now n }
 {
-    if n < s.len() { s[n] } else { 0 }
+    s.get(n).copied().unwrap_or(0)
 }
 
 // The name before the @ of an operand.
 pub fn name_of(s: &[u8]) -> &[u8]
     ensures { result.now ≡ name_of s.now }
 {
-    let n = letters(s);
-    &s[0..n]
+    &s[..letters(s)]
 }
 
 // What follows the @ of an operand.
 pub fn after_at(s: &[u8]) -> &[u8]
     ensures { result.now ≡ after_at s.now }
 {
-    let n = letters(s);
-    tail(s, n + 1)
+    tail(s, letters(s) + 1)
 }
 
 // A minus and a number.
 pub(crate) fn is_negative(s: &[u8]) -> bool
     ensures { result ≡ is_negative s.now }
 {
-    byte_at(s, 0) == b'-' && is_number(tail(s, 1))
+    matches!(s, [b'-', digits @ ..] if is_number(digits))
 }
 
 // A name, an @ and a number.
 pub(crate) fn is_earlier(s: &[u8]) -> bool
     ensures { result ≡ is_earlier s.now }
 {
-    is_name(name_of(s)) && byte_at(s, letters(s)) == b'@' && is_number(after_at(s))
+    let (name, rest) = s.split_at(letters(s));
+    is_name(name) && matches!(rest, [b'@', digits @ ..] if is_number(digits))
 }

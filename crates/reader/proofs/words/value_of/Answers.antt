@@ -1,32 +1,13 @@
-use Rattle.std.proofs.Common.{◌^◌, ◌<◌, ◌≤◌, get_or, refl, arith}
+use Rattle.std.proofs.Common.{◌^◌, ◌<◌, ◌≤◌, length, arith}
 use native.Mathlib.Nat.{pow-le-pow_right}
-use Rattle.model.specs.Shapes.{digit}
-use Rattle.model.proofs.Scans.{every_here, digit_bounds, value_more, value_end, pow_more, number_parts}
+use Rattle.model.proofs.Scans.{number_parts}
 use Rattle.reader.proofs.words.value_of.Goals as goal
 
-pub overflow_sub-n : goal.overflow_sub-n
-overflow_sub-n c =
-    let inv = c.loop-b.invariant in
-    let d = digit_bounds (get_or c.args.s.now c.loop-b.b-index 0) (every_here digit c.args.s.now c.loop-b.b-index c.loop-b-test.true inv.1).0 in
-    omega arith
-
-pub loop-b-preserved : goal.loop-b-preserved
-loop-b-preserved c =
-    let inv = c.loop-b.invariant in
-    let i = c.loop-b.b-index in
-    let w = c.args.s.now in
-    let e = every_here digit w i c.loop-b-test.true inv.1 in
-    let d = digit_bounds (get_or w i 0) e.0 in
-    (value_more w i c.loop-b.n _ c.loop-b-test.true inv.0, e.1, inv.2, pow_more i c.loop-b.n (get_or w i 0) inv.3 d.1)
+pub digits_value-requires : goal.digits_value-requires
+digits_value-requires c = let p = number_parts c.args.s.now c.requires in record { digits = p.2; few = omega arith }
 
 pub returns : goal.returns
 returns c =
-    let inv = c.loop-b.invariant in
-    let few : c.loop-b.b-index ≤ 5 = omega arith in
-    record {
-      value = value_end c.args.s.now c.loop-b.b-index c.loop-b.n _ c.loop-b-test.false inv.0;
-      small = omega (arith, let p : ◌^◌ 10 c.loop-b.b-index ≤ ◌^◌ 10 5 = pow-le-pow_right (let z : 0 < 10 = omega arith in z) few in p, inv.3);
-    }
-
-pub loop-b-init : goal.loop-b-init
-loop-b-init c = let p = number_parts _ c.requires in (refl, p.2, p.1, omega arith)
+    let p = number_parts c.args.s.now c.requires in
+    let most : 10 ^ length c.args.s.now ≤ 10 ^ 5 = pow-le-pow_right (let z : 0 < 10 = omega arith in z) p.1 in
+    record { value = c.digits_value.ensures.value; small = omega (arith, c.digits_value.ensures.small) }

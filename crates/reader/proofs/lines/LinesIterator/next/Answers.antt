@@ -1,0 +1,18 @@
+use Rattle.std.proofs.Common.{◌≡◌, ◌∷◌, length, take, ap, arith}
+use Rattle.std.proofs.lemmas.Grind.{common_steps}
+use Rattle.model.specs.Lines.{lines, numbered}
+use Rattle.reader.proofs.Cuts.{cut}
+use Rattle.reader.proofs.lines.LinesIterator.next.Goals as goal
+
+pub returns-clause-steps : goal.returns-clause-steps
+returns-clause-steps c =
+    let s = c.args.self.now.rest.now in
+    let parts : lines s ≡ take c.line_len-end.result s ∷ lines c.tail-self.result.now = rw (c.tail-self.ensures, c.line_len-end.ensures.value) (cut s (grind (arith, common_steps))) in
+    ap (numbered c.args.self.now.number) parts
+
+pub returns-clause-goes : goal.returns-clause-goes
+returns-clause-goes c =
+    let s = c.args.self.now.rest.now in
+    let parts : lines s ≡ take c.line_len-end.result s ∷ lines c.tail-self.result.now = rw (c.tail-self.ensures, c.line_len-end.ensures.value) (cut s (grind (arith, common_steps))) in
+    let less = ap (λ ls. length (numbered c.args.self.now.number ls)) parts in
+    record { on = λ _. (tt, tt, omega arith); keeps = tt; rests = λ _. tt }
