@@ -1,90 +1,97 @@
--- One use more or less in a cell.
-use Rattle.std.proofs.Common.{◌≡◌, ℕ, zero, suc, ◌+◌, ◌-◌, ◌*◌, ◌%◌, ◌<◌, ◌≤◌, Bool, true, false, cond, not, ◌&&◌, eqb, ltb, List, length, get_or, set, replicate, None, Option, sym, refl, ap, ◌∙◌, inl, inr, add-one, arith}
+-- What the counts say of uses.
+use Rattle.std.proofs.Common.{◌≡◌, ℕ, zero, suc, ◌+◌, ◌-◌, ◌%◌, ◌<◌, ◌≤◌, Bool, true, false, cond, not, ◌||◌, eqb, leb, List, [], ◌∷◌, ◌++◌, length, get_or, set, replicate, None, Option, sym, refl, ap, subst, subst₂, ◌∙◌, inl, inr, add-one, add-zero, arith}
+use Rattle.std.specs.List.{range_with_len, list_any, list_all, count_by}
+use Rattle.std.proofs.lemmas.List.{get_or-set_same, get_or-set_other}
+use Rattle.std.proofs.lemmas.List.Folds.{list_any-append}
+use Rattle.std.proofs.lemmas.List.Sums.{sum_by-append}
+use Rattle.std.proofs.lemmas.Bool.{cases_eq, cases_lt, eq-eqb, ne_eqb, ltb-true, ltb-false, leb-true, le-leb, or_parts, and_from, and_parts, both_ways}
 use Rattle.graph_laws.proofs.Steps.{zeros}
-use Rattle.std.proofs.lemmas.List.{get_or-set_same, get_or-set_other, get_or_past}
-use Rattle.std.proofs.lemmas.Bool.{cases_eq, cases_lt, eq-eqb, ne_eqb, lt-ltb, le-ltb, ltb-true, ltb-false, leb-true, or_left, or_right, or_from, or_parts, and_parts, both_ways}
-use Rattle.graph_laws.proofs.Total.{total_longer}
 use Rattle.model.specs.Schedule.{uses}
 use Rattle.model.specs.Search.{some_below}
 use Rattle.reservation.specs.Cells.{cell, Within, bookable}
+use Rattle.reservation.specs.Uses.{Repeated, Stepped, UsesAt, HasUses}
+use Rattle.reservation.specs.Views.{count, fits_of}
+use Rattle.reservation.specs.declared.uses.Uses.{Uses}
+use Rattle.reservation.specs.declared.table.ReservationTable.{ReservationTable}
+use Rattle.model.specs.declared.Timing.{Timing}
+use Rattle.search_laws.proofs.Crowds.{uses_hit}
+use Rattle.search_laws.proofs.Ties.{at_class}
 use Rattle.search_laws.specs.Counts.{Added, Room, Has, over, over_in}
 
-abbrev hit : ℕ → ℕ → ℕ → ℕ → ℕ
-hit k t r b = cond (eqb ((t + b) % k) r) 1 0
+-- a range with one number more
+range_more : (t n : ℕ) → range_with_len t (suc n) ≡ range_with_len t n ++ (t + n) ∷ []
+range_more t zero = rw add-zero
+range_more t (suc n) = ap (λ xs. t ∷ xs) (range_more (t + 1) n ∙ ap (λ x. range_with_len (t + 1) n ++ x ∷ []) (omega arith))
 
-pub uses_more : (k t b r : ℕ) → uses k t (b + 1) r ≡ uses k t b r + hit k t r b
-uses_more k t b r = rw add-one
+-- the cycles that fall into a row are its uses
+pub counted : (k t n r : ℕ) → count_by (λ x. eqb (x % k) r) (range_with_len t n) ≡ uses k t n r
+counted k t zero r = refl
+counted k t (suc n) r =
+    ap (count_by (λ x. eqb (x % k) r)) (range_more t n) ∙ omega (arith, sum_by-append (λ x. cond (eqb (x % k) r) 1 0) (range_with_len t n) ((t + n) ∷ []), counted k t n r)
 
-module _ (k c t b row : ℕ) (er : row ≡ (t + b) % k) (hr : row < 256) (hc : c < 8) where
-  -- the cells of two counts differ by the uses of the first b cycles; the same of b + 1 after one more in the row of cycle b
-  pub add_step : (cs ds : List ℕ) (u r : ℕ) → c * 256 + row < length cs → u < 8 → r < 256 →
-      cell cs u r ≡ cell ds u r + cond (eqb u c) (uses k t b r) 0 →
-      cell (set cs (c * 256 + row) (get_or cs (c * 256 + row) 0 + 1)) u r ≡ cell ds u r + cond (eqb u c) (uses k t (b + 1) r) 0
-  add_step cs ds u r l hu hrr h =
-      let v : ℕ = get_or cs (c * 256 + row) 0 + 1 in
-      let more = uses_more k t b r in
-      elim (cases_eq u c) [
-        | inl e ↦
-            let h' : cell cs u r ≡ cell ds u r + uses k t b r = rw (eq-eqb u c e) at h in
-            rw (eq-eqb u c e) (elim (cases_eq row r) [
-              | inl f ↦
-                  let i : u * 256 + r ≡ c * 256 + row = omega arith in
-                  let one : hit k t r b ≡ 1 = rw (eq-eqb ((t + b) % k) r (sym er ∙ f)) in
-                  omega (arith, ap (λ x. get_or (set cs (c * 256 + row) v) x 0) i, get_or-set_same cs (c * 256 + row) v 0 l, ap (λ x. get_or cs x 0) i)
-              | inr n ↦
-                  let none : hit k t r b ≡ 0 = rw (ne_eqb ((t + b) % k) r (λ z. n (er ∙ z))) in
-                  omega (arith, get_or-set_other cs (c * 256 + row) (u * 256 + r) v 0 (λ z. n (omega arith)))
-            ])
-        | inr n ↦
-            let h' : cell cs u r ≡ cell ds u r + 0 = rw (ne_eqb u c n) at h in
-            rw (ne_eqb u c n) (omega (arith, get_or-set_other cs (c * 256 + row) (u * 256 + r) v 0 (λ z. n (omega arith))))
-      ]
+or_turned : (a b : Bool) → (a || (b || false)) ≡ (b || a)
+or_turned true true = refl
+or_turned true false = refl
+or_turned false true = refl
+or_turned false false = refl
 
-  pub take_step : (cs ds : List ℕ) (u r : ℕ) → c * 256 + row < length cs → u < 8 → r < 256 → 1 ≤ get_or cs (c * 256 + row) 0 →
-      cell ds u r ≡ cell cs u r + cond (eqb u c) (uses k t b r) 0 →
-      cell ds u r ≡ cell (set cs (c * 256 + row) (get_or cs (c * 256 + row) 0 - 1)) u r + cond (eqb u c) (uses k t (b + 1) r) 0
-  take_step cs ds u r l hu hrr some h =
-      let v : ℕ = get_or cs (c * 256 + row) 0 - 1 in
-      let more = uses_more k t b r in
-      elim (cases_eq u c) [
-        | inl e ↦
-            let h' : cell ds u r ≡ cell cs u r + uses k t b r = rw (eq-eqb u c e) at h in
-            rw (eq-eqb u c e) (elim (cases_eq row r) [
-              | inl f ↦
-                  let i : u * 256 + r ≡ c * 256 + row = omega arith in
-                  let one : hit k t r b ≡ 1 = rw (eq-eqb ((t + b) % k) r (sym er ∙ f)) in
-                  omega (arith, ap (λ x. get_or (set cs (c * 256 + row) v) x 0) i, get_or-set_same cs (c * 256 + row) v 0 l, ap (λ x. get_or cs x 0) i)
-              | inr n ↦
-                  let none : hit k t r b ≡ 0 = rw (ne_eqb ((t + b) % k) r (λ z. n (er ∙ z))) in
-                  omega (arith, get_or-set_other cs (c * 256 + row) (u * 256 + r) v 0 (λ z. n (omega arith)))
-            ])
-        | inr n ↦
-            let h' : cell ds u r ≡ cell cs u r + 0 = rw (ne_eqb u c n) at h in
-            rw (ne_eqb u c n) (omega (arith, get_or-set_other cs (c * 256 + row) (u * 256 + r) v 0 (λ z. n (omega arith))))
-      ]
+-- some of so many numbers from t on
+pub some_of : (p : ℕ → Bool) (t n : ℕ) → list_any p (range_with_len t n) ≡ some_below (λ b. p (t + b)) n
+some_of p t zero = refl
+some_of p t (suc n) =
+    ap (list_any p) (range_more t n) ∙ (list_any-append p (range_with_len t n) ((t + n) ∷ []) ∙
+    (ap (λ x. x || (p (t + n) || false)) (some_of p t n) ∙ or_turned (some_below (λ b. p (t + b)) n) (p (t + n))))
 
--- the row of cycle b of `busy` has a use after the first b cycles
-pub one_left : (k t b row : ℕ) → row ≡ (t + b) % k → (busy : ℕ) → b < busy → uses k t b row + 1 ≤ uses k t busy row
-one_left k t b row er busy h =
-    let one : hit k t row b ≡ 1 = rw (eq-eqb ((t + b) % k) row (sym er)) in
-    omega (arith, uses_more k t b row, total_longer (hit k t row) (b + 1) busy (omega arith))
+all_of : (p : ℕ → Bool) (t n : ℕ) → list_all p (range_with_len t n) ≡ true → (b : ℕ) → b < n → p (t + b) ≡ true
+all_of p t zero h b l = absurd (omega arith)
+all_of p t (suc n) h b l =
+    let both = and_parts _ _ h in
+    elim (cases_eq b 0) [
+      | inl e ↦ ap p (omega arith) ∙ both.0
+      | inr z ↦ ap p (omega arith) ∙ all_of p (t + 1) n both.1 (b - 1) (omega arith)
+    ]
 
-pub at_class : (c x : ℕ) → cond (eqb c c) x 0 ≡ x
-at_class c x = rw (eq-eqb c c refl)
+all_from : (p : ℕ → Bool) (t n : ℕ) → ((x : ℕ) → p x ≡ true) → list_all p (range_with_len t n) ≡ true
+all_from p t zero h = refl
+all_from p t (suc n) h = and_from _ _ (h t) (all_from p (t + 1) n h)
 
--- there is room for one more in the row of cycle b
-pub can_add : (k c t b busy row : ℕ) (cs ds : List ℕ) → row ≡ (t + b) % k → row < 256 → c < 8 → b < busy → Added k c t b (cell ds) (cell cs) →
-    ((r : ℕ) → r < 256 → cell ds c r + uses k t busy r ≤ 255) → get_or cs (c * 256 + row) 0 + 1 < 256
-can_add k c t b busy row cs ds er hr hc h inv room =
-    omega (arith, inv c row hc hr, at_class c (uses k t b row), room row hr, one_left k t b row er busy h)
+-- one cycle more
+pub one_more : (R : ℕ → ℕ → Type 0) (k t n m row v : ℕ) (xs ys : List ℕ) → row ≡ (t + n) % k → m ≡ suc n → row < length xs → R (get_or xs row 0) v → (r : ℕ) →
+    Repeated R (uses k t n r) (get_or ys r 0) (get_or xs r 0) → Repeated R (uses k t m r) (get_or ys r 0) (get_or (set xs row v) r 0)
+one_more R k t n m row v xs ys at next h step r so_far = elim (cases_eq r row) [
+  | inl e ↦
+      let more : uses k t m r ≡ suc (uses k t n r) = ap (λ x. uses k t x r) next ∙ rw (eq-eqb ((t + n) % k) r (sym at ∙ sym e), add-one) in
+      let is : get_or (set xs row v) r 0 ≡ v = ap (λ x. get_or (set xs row v) x 0) e ∙ get_or-set_same xs row v 0 h in
+      let here : R (get_or xs r 0) v = subst (λ x. R (get_or xs x 0) v) (sym e) step in
+      subst₂ (λ x y. Repeated R x (get_or ys r 0) y) (sym more) (sym is) (get_or xs r 0, so_far, here)
+  | inr z ↦
+      let same : uses k t m r ≡ uses k t n r = ap (λ x. uses k t x r) next ∙ rw (ne_eqb ((t + n) % k) r (λ e. z (sym e ∙ sym at)), add-zero) in
+      subst₂ (λ x y. Repeated R x (get_or ys r 0) y) (sym same) (sym (get_or-set_other xs row r v 0 z)) so_far
+]
 
-pub can_take : (k c t b busy row : ℕ) (cs ds : List ℕ) → row ≡ (t + b) % k → row < 256 → c < 8 → b < busy → Added k c t b (cell cs) (cell ds) →
-    ((r : ℕ) → r < 256 → uses k t busy r ≤ cell ds c r) → 1 ≤ get_or cs (c * 256 + row) 0
-can_take k c t b busy row cs ds er hr hc h inv room =
-    omega (arith, inv c row hc hr, at_class c (uses k t b row), room row hr, one_left k t b row er busy h)
+-- one class changed
+pub class_changed : (R : ℕ → ℕ → Type 0) (f : ℕ → ℕ) (cs : List (List ℕ)) (c : ℕ) (xs : List ℕ) → c < length cs → ((r : ℕ) → r < 256 → Repeated R (f r) (cell cs c r) (get_or xs r 0)) →
+    (u r : ℕ) → r < 256 → Repeated R (cond (eqb u c) (f r) 0) (cell cs u r) (cell (set cs c xs) u r)
+class_changed R f cs c xs h steps u r hr = elim (cases_eq u c) [
+  | inl e ↦ rw (e, eq-eqb c c refl, get_or-set_same cs c xs [] h) (steps r hr)
+  | inr z ↦ rw (ne_eqb u c z) (ap (λ ys. get_or ys r 0) (get_or-set_other cs c u xs [] z))
+]
+
+-- steps by one
+added_up : (R : ℕ → ℕ → Type 0) → ((m v : ℕ) → R m v → m < 255 → v ≡ m + 1) → (n a v : ℕ) → a + n ≤ 255 → Repeated R n a v → v ≡ a + n
+added_up R up zero a v h e = omega arith
+added_up R up (suc n) a v h s =
+    let before = added_up R up n a s.0 (omega arith) s.1 in
+    omega (arith, up s.0 v s.2 (omega arith))
+
+taken_off : (R : ℕ → ℕ → Type 0) → ((m v : ℕ) → R m v → v ≡ m - 1) → (n a v : ℕ) → n ≤ a → Repeated R n a v → a ≡ v + n
+taken_off R down zero a v h e = omega arith
+taken_off R down (suc n) a v h s =
+    let before = taken_off R down n a s.0 (omega arith) s.1 in
+    omega (arith, down s.0 v s.2)
 
 -- after an addition for which there was room
-pub within_add : (k c t busy : ℕ) (before now units : List ℕ) → Added k c t busy (cell before) (cell now) → Within before units → Room k c t busy (cell before) (λ u. get_or units u 0) → Within now units
+within_add : (k c t busy : ℕ) (before now : List (List ℕ)) (units : List ℕ) → Added k c t busy (cell before) (cell now) → Within before units → Room k c t busy (cell before) (λ u. get_or units u 0) → Within now units
 within_add k c t busy before now units added held room u r hu hr = elim (cases_eq u c) [
   | inl e ↦ rw e (omega (arith, added c r (omega arith) hr, at_class c (uses k t busy r), room r hr))
   | inr n ↦
@@ -92,52 +99,21 @@ within_add k c t busy before now units added held room u r hu hr = elim (cases_e
       omega (arith, held u r hu hr)
 ]
 
-pub within_take : (k c t busy : ℕ) (before now units : List ℕ) → Added k c t busy (cell now) (cell before) → Within before units → Within now units
+within_take : (k c t busy : ℕ) (before now : List (List ℕ)) (units : List ℕ) → Added k c t busy (cell now) (cell before) → Within before units → Within now units
 within_take k c t busy before now units added held u r hu hr = omega (arith, added u r hu hr, held u r hu hr)
-
-pub some_more : (p : ℕ → Bool) (n : ℕ) → p n ≡ false → some_below p n ≡ false → some_below p (n + 1) ≡ false
-some_more p n e h = rw add-one (or_from _ _ e h)
-
-pub some_found : (p : ℕ → Bool) (n m : ℕ) → p n ≡ true → n < m → true ≡ some_below p m
-some_found p n zero e h = absurd (omega arith)
-some_found p n (suc m) e h = elim (cases_eq n m) [
-  | inl z ↦ sym (or_left _ _ (rw z at e))
-  | inr z ↦ sym (or_right _ _ (sym (some_found p n m e (omega arith))))
-]
 
 pub all_none : (n q : ℕ) → ◌≡◌ {A = Option ℕ} (get_or (replicate n None) q None) None
 all_none zero q = refl
 all_none (suc n) zero = refl
 all_none (suc n) (suc q) = all_none n q
 
--- one more count copied
-pub copied_more : (counts units : List ℕ) (u : ℕ) → u < length counts → ((p : ℕ) → get_or counts p 0 ≡ cond (ltb p u) (get_or units p 0) 0) →
-    (p : ℕ) → get_or (set counts u (get_or units u 0)) p 0 ≡ cond (ltb p (u + 1)) (get_or units p 0) 0
-copied_more counts units u h inv p = elim (cases_eq p u) [
-  | inl e ↦ rw (e, lt-ltb u (u + 1) (omega arith)) (get_or-set_same counts u _ 0 h)
-  | inr n ↦ get_or-set_other counts u p _ 0 n ∙ (inv p ∙ ap (λ b. cond b (get_or units p 0) 0) (same_test p u n))
-]
-  where
-    same_test : (q m : ℕ) → (q ≡ m → ⊥) → ltb q m ≡ ltb q (m + 1)
-    same_test q m z = elim (cases_lt q m) [
-      | inl l ↦ lt-ltb q m l ∙ sym (lt-ltb q (m + 1) (omega arith))
-      | inr g ↦ le-ltb q m g ∙ sym (le-ltb q (m + 1) (omega arith))
-    ]
-
-pub copied_none : (n p : ℕ) (units : List ℕ) → get_or (replicate n 0) p 0 ≡ cond (ltb p 0) (get_or units p 0) 0
-copied_none n p units = zeros n p ∙ sym (rw (le-ltb p 0 (omega arith)))
-
-pub copied_all : (counts units : List ℕ) (u : ℕ) → length units ≤ u → ((p : ℕ) → get_or counts p 0 ≡ cond (ltb p u) (get_or units p 0) 0) → (p : ℕ) → get_or counts p 0 ≡ get_or units p 0
-copied_all counts units u h inv p = elim (cases_lt p u) [
-  | inl l ↦ inv p ∙ rw (lt-ltb p u l)
-  | inr g ↦ inv p ∙ (rw (le-ltb p u g) (sym (get_or_past units p 0 (omega arith))))
-]
-
-pub few_units : (units : List ℕ) (u : ℕ) → length units ≤ u → ((p : ℕ) → p < u → get_or units p 0 ≤ 8) → (p : ℕ) → get_or units p 0 ≤ 8
-few_units units u h inv p = elim (cases_lt p u) [ inl l ↦ inv p l | inr g ↦ omega (arith, get_or_past units p 0 (omega arith)) ]
+pub none_counted : (n m u r : ℕ) → cell (replicate n (replicate m 0)) u r ≡ 0
+none_counted zero m u r = refl
+none_counted (suc n) m zero r = zeros m r
+none_counted (suc n) m (suc u) r = none_counted n m u r
 
 -- what a table takes
-pub bookable_parts : (c busy t : ℕ) → bookable c busy t ≡ true → (c < 8) × (busy ≤ 8) × (t ≤ 99999)
+bookable_parts : (c busy t : ℕ) → bookable c busy t ≡ true → (c < 8) × (busy ≤ 8) × (t ≤ 99999)
 bookable_parts c busy t h =
     let a = and_parts _ _ h in
     let b = and_parts _ _ a.1 in
@@ -148,17 +124,7 @@ some_none : (p : ℕ → Bool) (n b : ℕ) → some_below p n ≡ false → b < 
 some_none p zero b h l = absurd (omega arith)
 some_none p (suc n) b h l = let both = or_parts _ _ h in elim (cases_eq b n) [ inl e ↦ rw e both.0 | inr z ↦ some_none p n b both.1 (omega arith) ]
 
-pub uses_hit : (k t busy r : ℕ) → 0 < uses k t busy r → (b : ℕ) × (b < busy) × ((t + b) % k ≡ r)
-uses_hit k t zero r h = absurd (omega arith)
-uses_hit k t (suc b) r h = elim (cases_eq ((t + b) % k) r) [
-  | inl e ↦ (b, omega arith, e)
-  | inr n ↦
-      let before : 0 < uses k t b r + 0 = rw (ne_eqb _ _ n) at h in
-      let w = uses_hit k t b r (omega arith) in
-      (w.0, omega (arith, w.1), w.2)
-]
-
-pub room_from : (k c t busy : ℕ) (counts units : List ℕ) → c < 8 → Within counts units → over_in k c t busy (cell counts) (λ u. get_or units u 0) t busy ≡ false →
+room_from : (k c t busy : ℕ) (counts : List (List ℕ)) (units : List ℕ) → c < 8 → Within counts units → over_in k c t busy (cell counts) (λ u. get_or units u 0) t busy ≡ false →
     Room k c t busy (cell counts) (λ u. get_or units u 0)
 room_from k c t busy counts units c8 held none r hr = elim (cases_lt 0 (uses k t busy r)) [
   | inl l ↦
@@ -169,21 +135,54 @@ room_from k c t busy counts units c8 held none r hr = elim (cases_lt 0 (uses k t
 ]
 
 -- the rows of an operation's cycles are all its rows
-pub has_from : (k c t busy : ℕ) (counts : ℕ → ℕ → ℕ) → ((b : ℕ) → b < busy → uses k t busy ((t + b) % k) ≤ counts c ((t + b) % k)) → Has k c t busy counts
-has_from k c t busy counts each r hr = elim (cases_lt 0 (uses k t busy r)) [
-  | inl l ↦ let b = uses_hit k t busy r l in rw b.2 at (each b.0 b.1)
+pub has_from : (k c t n : ℕ) (counts : ℕ → ℕ → ℕ) → list_all (λ x. leb (uses k t n (x % k)) (counts c (x % k))) (range_with_len t n) ≡ true → Has k c t n counts
+has_from k c t n counts each r hr = elim (cases_lt 0 (uses k t n r)) [
+  | inl l ↦
+      let b = uses_hit k t n r l in
+      leb-true _ _ (rw b.2 at (all_of (λ x. leb (uses k t n (x % k)) (counts c (x % k))) t n each b.0 b.1))
   | inr g ↦ omega arith
 ]
+
+pub has_each : (k c t n : ℕ) (counts : ℕ → ℕ → ℕ) → 0 < k → k ≤ 256 → Has k c t n counts → list_all (λ x. leb (uses k t n (x % k)) (counts c (x % k))) (range_with_len t n) ≡ true
+has_each k c t n counts some most has = all_from _ t n (λ x. le-leb _ _ (has (x % k) (omega arith)))
 
 not-true : (x : Bool) → not x ≡ true → x ≡ false
 not-true true h = absurd (both_ways _ refl h)
 not-true false h = refl
 
--- an operation that fits
-pub room_for : (k c t busy : ℕ) (counts units : List ℕ) → Within counts units →
-    true ≡ bookable c busy t && not (over_in k c t busy (cell counts) (λ u. get_or units u 0) t busy) →
-    (c < 8) × (busy ≤ 8) × (t ≤ 99999) × Room k c t busy (cell counts) (λ u. get_or units u 0)
-room_for k c t busy counts units held h =
-    let both = and_parts _ _ (sym h) in
-    let parts = bookable_parts c busy t both.0 in
-    (parts.0, parts.1, parts.2, room_from k c t busy counts units parts.0 held (not-true _ both.1))
+-- what holds of uses, by what they are made of
+by_parts : (P : ℕ → ℕ → ℕ → ℕ → Type 0) (k c n t : ℕ) (u : Uses) → UsesAt k c n t u → P u.interval u.class u.time u.busy → P k c t n
+by_parts P k c n t u at h = rw (← at.interval, ← at.class, ← at.time, ← at.busy) h
+
+module _ (t : ReservationTable) (now : List (List ℕ)) (o : Timing) (time : ℕ) (u : Uses) (R : ℕ → ℕ → Type 0) (at : UsesAt t.interval o.class o.busy time u) (steps : Stepped R u (count t) (cell now)) where
+  parts : (o.class < 8) × (o.busy ≤ 8) × (time ≤ 99999)
+  parts = bookable_parts o.class o.busy time at.taken
+
+  stepped : (d r : ℕ) → d < 8 → r < 256 → Repeated R (cond (eqb d o.class) (uses t.interval time o.busy r) 0) (count t d r) (cell now d r)
+  stepped = by_parts (λ k c s n. (d r : ℕ) → d < 8 → r < 256 → Repeated R (cond (eqb d c) (uses k s n r) 0) (count t d r) (cell now d r)) _ _ _ _ u at steps
+
+  -- booked where they fit
+  pub booked : fits_of t o time ≡ true → ((m v : ℕ) → R m v → m < 255 → v ≡ m + 1) → Added t.interval o.class time o.busy (count t) (cell now) × Within now t.units
+  booked fits up =
+      let room = room_from t.interval o.class time o.busy t.rows.counts t.units parts.0 t.held (not-true _ (and_parts _ _ fits).1) in
+      let added : Added t.interval o.class time o.busy (count t) (cell now) = λ d r hd hr. added_up R up _ _ _ (enough room d r hd hr) (stepped d r hd hr) in
+      (added, within_add t.interval o.class time o.busy t.rows.counts now t.units added t.held room)
+    where
+      enough : Room t.interval o.class time o.busy (count t) (λ x. get_or t.units x 0) → (d r : ℕ) → d < 8 → r < 256 → count t d r + cond (eqb d o.class) (uses t.interval time o.busy r) 0 ≤ 255
+      enough room d r hd hr = elim (cases_eq d o.class) [
+        | inl e ↦ rw (e, eq-eqb o.class o.class refl) (omega (arith, room r hr, t.few o.class parts.0))
+        | inr n ↦ rw (ne_eqb d o.class n) (omega (arith, t.held d r hd hr, t.few d hd))
+      ]
+
+  -- released where they are
+  pub released : HasUses t u → ((m v : ℕ) → R m v → v ≡ m - 1) → Has t.interval o.class time o.busy (count t) × Added t.interval o.class time o.busy (cell now) (count t) × Within now t.units
+  released has down =
+      let there = by_parts (λ k c s n. Has k c s n (count t)) _ _ _ _ u at has in
+      let added : Added t.interval o.class time o.busy (cell now) (count t) = λ d r hd hr. taken_off R down _ _ _ (enough there d r hr) (stepped d r hd hr) in
+      (there, added, within_take t.interval o.class time o.busy t.rows.counts now t.units added t.held)
+    where
+      enough : Has t.interval o.class time o.busy (count t) → (d r : ℕ) → r < 256 → cond (eqb d o.class) (uses t.interval time o.busy r) 0 ≤ count t d r
+      enough there d r hr = elim (cases_eq d o.class) [
+        | inl e ↦ rw (e, eq-eqb o.class o.class refl) (there r hr)
+        | inr n ↦ rw (ne_eqb d o.class n) (omega arith)
+      ]

@@ -1,3 +1,4 @@
 pub mod Times
 pub mod Cells
 pub mod Views
+pub mod Uses

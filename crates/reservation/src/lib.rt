@@ -6,7 +6,8 @@ mod rows;
 mod table;
 mod time_table;
 mod times;
+mod uses;
 
 pub use table::ReservationTable;
 pub use time_table::TimeTable;
-pub use times::stage_row;
+pub use timing::stage_and_row as stage_row;

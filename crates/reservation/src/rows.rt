@@ -1,53 +1,51 @@
 // The counts of a reservation table alone.
-ghost use Rattle.std.specs.Prelude.{◌≡◌, ℕ, ◌+◌, ◌*◌, ◌<◌, ◌≤◌};
-ghost use Rattle.model.specs.Schedule.{uses};
+ghost use Rattle.std.specs.Prelude.{◌≡◌, ℕ, ◌<◌, slice_index};
 ghost use Rattle.reservation.specs.Cells.{cell};
-ghost use Rattle.search_laws.specs.Counts.{Added};
+ghost use Rattle.reservation.specs.Uses.{uses_of, Repeated, Stepped};
 
-use timing::stage_and_row;
+use crate::uses::Uses;
 
 // 256 rows for each of eight classes.
 #[derive(Clone, Copy)]
 pub struct Rows {
-    pub(crate) counts: [u8; 2048],
+    pub(crate) counts: [[u8; 256]; 8],
 }
 
 impl Rows {
-    // The uses of an operation more.
-    pub(crate) fn add(&mut self, interval: usize, class: usize, time: usize, busy: usize)
-        requires { (0 < interval) × ((interval ≤ 256) × ((class < 8) × ((time + busy < 131072) × (((r : ℕ) → r < 256 → cell self.old.counts class r + uses interval time busy r ≤ 255))))) }
-        ensures { Added interval class time busy (cell self.old.counts) (cell self.new.counts) }
+    pub(crate) fn new() -> Rows
+        ensures { (u r : ℕ) → cell result.counts u r ≡ 0 }
     {
-        for b in 0..busy {
-            let (_, row) = stage_and_row(time + b, interval);
-            self.counts[class * 256 + row] += 1;
+        Rows {
+            counts: [[0; 256]; 8],
         }
     }
 
-    // The uses of an operation less.
-    pub(crate) fn take(&mut self, interval: usize, class: usize, time: usize, busy: usize)
-        requires { (0 < interval) × ((interval ≤ 256) × ((class < 8) × ((time + busy < 131072) × (((r : ℕ) → r < 256 → uses interval time busy r ≤ cell self.old.counts class r))))) }
-        ensures { Added interval class time busy (cell self.new.counts) (cell self.old.counts) }
+    // There are no uses in a row that there is not.
+    pub(crate) fn count(&self, class: usize, row: usize) -> usize
+        ensures inside { class < 8 → row < 256 → result ≡ cell self.now.counts class row }
+        ensures outside { ((class < 8) × (row < 256) → ⊥) → result ≡ 0 }
     {
-        for b in 0..busy {
-            let (_, row) = stage_and_row(time + b, interval);
-            self.counts[class * 256 + row] -= 1;
-        }
+        self.counts
+            .get(class)
+            .and_then(|rows| rows.get(row))
+            .map_or(0, |count| usize::from(*count))
+    }
+
+    // A step of the count for each use.
+    pub(crate) fn change<F: Fn(u8) -> u8>(&mut self, uses: &Uses, step: F)
+        requires { (n : ℕ) → n < 256 → F.pre step n }
+        ensures { Stepped (F.post step) uses.now (cell self.old.counts) (cell self.new.counts) }
+    {
+        change_class(&mut self.counts[uses.class], uses, step);
     }
 }
 
-// How many of an operation's cycles fall into a row.
-pub(crate) fn uses_in(interval: usize, time: usize, busy: usize, row: usize) -> usize
-    requires { (0 < interval) × (time + busy < 131072) }
-    ensures value { result ≡ uses interval time busy row }
-    ensures small { result ≤ busy }
+fn change_class<F: Fn(u8) -> u8>(counts: &mut [u8; 256], uses: &Uses, step: F)
+    requires { (n : ℕ) → n < 256 → F.pre step n }
+    ensures { (r : ℕ) → r < 256 → Repeated (F.post step) (uses_of uses.now r) (slice_index counts.old r) (slice_index counts.new r) }
 {
-    let mut n = 0;
-    for b in 0..busy {
-        let (_, at) = stage_and_row(time + b, interval);
-        if at == row {
-            n += 1;
-        }
+    for cycle in uses.time..uses.time + uses.busy {
+        let row = uses.row(cycle);
+        counts[row] = step(counts[row]);
     }
-    n
 }

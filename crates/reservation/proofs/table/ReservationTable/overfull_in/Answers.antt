@@ -1,19 +1,13 @@
-use Rattle.std.proofs.Common.{sym, ap, ◌∙◌}
-use Rattle.search_laws.specs.Counts.{over}
-use Rattle.reservation.specs.Views.{count, units_of}
-use Rattle.reservation.proofs.Cells.{some_more, some_found}
+use Rattle.std.proofs.Common.{◌%◌, ◌∙◌, arith, rules, tests}
+use Rattle.std.proofs.lemmas.Iterator.{YieldsList-from_range}
+use Rattle.std.proofs.lemmas.Iterator.Search.{any_from_yields_List}
+use Rattle.reservation.specs.Uses.{overfull_by}
+use Rattle.reservation.proofs.Cells.{some_of}
 use Rattle.reservation.proofs.table.ReservationTable.overfull_in.Goals as goal
 
-pub returns-then-overfull : goal.returns-then-overfull
-returns-then-overfull c =
-    let t = c.args.self.now in
-    some_found _ c.loop-b.b _
-    (ap (over t.interval c.args.class c.args.time c.args.busy (count t) (units_of t)) (sym c.stage_and_row-row.ensures.row) ∙ sym c.if-overfull.ensures)
-    c.loop-b-test.true
-
-pub loop-b-preserved : goal.loop-b-preserved
-loop-b-preserved c =
-    let t = c.args.self.now in
-    some_more _ c.loop-b.b
-    (ap (over t.interval c.args.class c.args.time c.args.busy (count t) (units_of t)) (sym c.stage_and_row-row.ensures.row) ∙ sym c.if-overfull.ensures)
-    c.loop-b.invariant
+pub returns : goal.returns
+returns c =
+    let u = c.args.uses.now in
+    let v = c.args.others.now in
+    any_from_yields_List (λ x. overfull_by c.args.self.now u (x % u.interval)) _ _ _ c.any.ensures.ran (YieldsList-from_range v.time _ v.busy c.cycles.ensures (omega arith)) (λ x b q k. search (rules, tests))
+    ∙ some_of (λ x. overfull_by c.args.self.now u (x % u.interval)) v.time v.busy

@@ -1,17 +1,14 @@
-use Rattle.std.proofs.Common.{sym, refl, arith}
-use Rattle.reservation.proofs.Cells.{bookable_parts, within_take}
+use Rattle.std.proofs.Common.{refl, rules}
+use Rattle.reservation.proofs.Cells.{released}
 use Rattle.reservation.proofs.table.ReservationTable.release.Goals as goal
-
-pub take-requires : goal.take-requires
-take-requires c =
-    let t = c.args.self.now in
-    let parts = bookable_parts c.args.timing.class c.args.timing.busy c.args.time (sym c.if-not-takes.ensures) in
-    (t.positive, (t.small, (parts.0, (omega (arith, parts.1, parts.2), c.if-not-holds.ensures.0 refl))))
 
 pub invariant_of-self : goal.invariant_of-self
 invariant_of-self c =
     let t = c.args.self.now in
-    record { held = within_take t.interval c.args.timing.class c.args.time c.args.timing.busy t.rows.counts _ t.units c.take.ensures t.held; positive = t.positive; small = t.small; few = t.few }
+    let done = released t c.change.new.self.counts c.args.timing c.args.time c.in-Some.uses _ c.in-Some.ensures c.change.ensures (c.if-not-holds.ensures.0 refl) (λ m v e. search rules) in
+    record { held = done.2; positive = t.positive; small = t.small; few = t.few }
 
 pub returns : goal.returns
-returns c = (c.if-not-holds.ensures.0 refl, c.take.ensures, record { units = refl; interval = refl })
+returns c =
+    let done = released c.args.self.now c.change.new.self.counts c.args.timing c.args.time c.in-Some.uses _ c.in-Some.ensures c.change.ensures (c.if-not-holds.ensures.0 refl) (λ m v e. search rules) in
+    (done.0, done.1, record { units = refl; interval = refl })
