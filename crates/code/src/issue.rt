@@ -1,7 +1,4 @@
 // What issues, in names of registers.
-use model::Operator;
-use statements::statement::Cell;
-
 // A number that stands in the code, or a register by its name.
 #[derive(Clone, Copy)]
 pub enum Source {
@@ -9,13 +6,7 @@ pub enum Source {
     Register(usize),
 }
 
-#[derive(Clone, Copy)]
-pub enum Operation {
-    Load(Cell),
-    Store(Source, Cell),
-    Binary(Operator, Source, Source),
-    Move(Source),
-}
+pub type Operation = operations::Operation<Source>;
 
 // An operation as it issues, for the iteration pass - stage, and the name of its result register; a store has none.
 #[derive(Clone, Copy)]

@@ -11,11 +11,10 @@ use Rattle.texts.specs.declared.fault.TextFault.TheVariants.{TooLong, Unprintabl
 use Rattle.texts.specs.Faults.{refusal}
 use Rattle.statements.specs.declared.statement.Statement.{Statement as OwnStatement}
 use Rattle.statements.specs.Statements.{statement_seen, all_seen}
-use Rattle.dependence.specs.declared.operation.Operation.{Operation as OwnOperation}
 use Rattle.dependence.specs.declared.fault.GraphFault.{GraphFault}
 use Rattle.dependence.specs.declared.fault.GraphFault.TheVariants.{Text, UnknownName}
 use Rattle.dependence.specs.Faults.{fault}
-use Rattle.dependence.specs.Operations.{operation_seen, operations_seen}
+use Rattle.dependence.specs.Operations.{OwnOperation, operation_seen, operations_seen}
 use Rattle.dependence.specs.Known.{uses_known, refusal as graph_refusal}
 
 abbrev pub seven : List Statement → Result (List Statement) Refusal
@@ -60,19 +59,9 @@ same_fault CodeMissing = refl
 same_fault (ManyOperations line) = refl
 same_fault NoOperation = refl
 
--- one operation more
+-- an operation, its operands looked up
 abbrev pub looked_up : List Statement → Statement → Operation Operand
 looked_up ss s = on_operands (λ u. resolved ss u.operand) s.operation
-
-pub resolve_more : (all : List Statement) (xs : List OwnStatement) (os : List OwnOperation) (i : ℕ) (x : OwnStatement) (o : OwnOperation) → i < length xs → i < length os → x ≡ get_or xs i x →
-    operation_seen o ≡ looked_up all (statement_seen x) → operations_seen (take i os) ≡ map (looked_up all) (all_seen (take i xs)) →
-    operations_seen (take (i + 1) (set os i o)) ≡ map (looked_up all) (all_seen (take (i + 1) xs))
-resolve_more all xs os i x o h k q e inv =
-    ap operations_seen (take_more_set os i o k) ∙ map_push operation_seen (take i os) o
-    ∙ ap (λ r. r ++ operation_seen o ∷ []) inv ∙ ap (λ y. map (looked_up all) (all_seen (take i xs)) ++ y ∷ []) e
-    ∙ sym (map_push (looked_up all) (all_seen (take i xs)) (statement_seen x))
-    ∙ sym (ap (map (looked_up all)) (map_push statement_seen (take i xs) x))
-    ∙ sym (ap (λ r. map (looked_up all) (all_seen r)) (take_more xs i x h ∙ ap (λ y. take i xs ++ y ∷ []) (sym q)))
 
 -- what question 7 refuses
 pub by_seven : (ss : List Statement) (f : GraphFault) → Some (graph_refusal f) ≡ no_or 7 (uses_known ss (uses_of ss)) None → Err (fault f) ≡ on_err text_fault (on_ok loop_of (seven ss))

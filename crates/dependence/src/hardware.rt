@@ -1,32 +1,16 @@
 // What a loop takes of a machine.
 ghost use Rattle.std.specs.Prelude.{◌≡◌, ℕ, ◌+◌, ◌<◌, ◌≤◌, map, length, take, slice_index};
-ghost use Rattle.model.specs.Soundness.{code_of, timing_of, timings_of, units_of};
+ghost use Rattle.few.specs.Held.{held};
+ghost use Rattle.model.specs.Soundness.{timing_of, timings_of, units_of};
 ghost use Rattle.texts.specs.Records.{machine_seen};
 ghost use Rattle.dependence.specs.Operations.{operation_seen};
 ghost use Rattle.dependence.specs.Loops.{loop_seen};
 
 use crate::loops::Loop;
-use crate::operation::Operation;
-use model::{Code, Operator, Timing};
+use few::Few;
+use model::{Code, Timing};
 use texts::machine::Machine;
 use texts::machine_text::code_number;
-
-impl Operation {
-    pub fn code(&self) -> Code
-        ensures { result ≡ code_of (operation_seen self.now) }
-    {
-        match self {
-            Operation::Load(_) => Code::Load,
-            Operation::Store(_, _) => Code::Store,
-            Operation::Binary(operator, _, _) => match operator {
-                Operator::Plus => Code::Add,
-                Operator::Minus => Code::Sub,
-                Operator::Times => Code::Mul,
-            },
-            Operation::Move(_) => Code::Move,
-        }
-    }
-}
 
 // What a machine makes of a code.
 pub fn timing_of(machine: &Machine, code: Code) -> Timing
@@ -43,22 +27,17 @@ pub fn timing_of(machine: &Machine, code: Code) -> Timing
     }
 }
 
-// What each operation takes of the machine; the places behind the operations say nothing.
-pub fn timings_of(machine: &Machine, l: &Loop) -> [Timing; 32]
-    ensures whole { length result ≡ 32 }
-    ensures value { take l.now.count result ≡ timings_of (machine_seen machine.now) (loop_seen l.now) }
+// What each operation takes of the machine.
+pub fn timings_of(machine: &Machine, l: &Loop) -> Few<Timing, 32>
+    ensures { held result ≡ timings_of (machine_seen machine.now) (loop_seen l.now) }
 {
     let nothing = Timing {
         class: 0,
         latency: 0,
         busy: 0,
     };
-    let mut timings = [nothing; 32];
-    for i in 0..l.count {
-        let operation = l.operations[i];
-        timings[i] = timing_of(machine, operation.code());
-    }
-    timings
+    l.body
+        .map(nothing, |operation| timing_of(machine, operation.code()))
 }
 
 // The units of each class, and 0 behind the last.

@@ -6,3 +6,4 @@ pub mod hardware;
 pub mod loops;
 pub mod operation;
 pub mod reading;
+pub mod shown;

@@ -1,19 +1,22 @@
 // The reading of a loop: its text, whether each name that is read is known, and its operations with their definers.
 ghost use Rattle.std.specs.Prelude.{◌≡◌, ℕ, ◌+◌, ◌<◌, ◌≤◌, Bool, true, false, ◌&&◌, [], ◌∷◌, map, length, take, None, nat_lt};
+ghost use Rattle.few.specs.Held.{held};
 ghost use Rattle.model.specs.Shapes.{some};
 ghost use Rattle.model.specs.Questions.{no_or};
 ghost use Rattle.model.specs.Loop.{operands, on_operands};
 ghost use Rattle.model.specs.LoopText.{known, same_name, definer as definer_of, resolved, uses_of, loop_of, read_loop};
 ghost use Rattle.model.specs.Faults.{on_err, text_fault};
 ghost use Rattle.texts.specs.Seen.{name_seen};
+ghost use Rattle.statements.specs.Records.{statements_seen};
 ghost use Rattle.statements.specs.Statements.{written_seen, use_seen, action_seen, statement_seen, all_seen};
 ghost use Rattle.dependence.specs.Operations.{operand_seen, operation_seen, operations_seen};
-ghost use Rattle.dependence.specs.Loops.{loop_answered};
+ghost use Rattle.dependence.specs.Loops.{loop_answered, loop_seen};
 ghost use Rattle.dependence.specs.Known.{uses_known, told};
 
 use crate::fault::GraphFault;
 use crate::loops::Loop;
 use crate::operation::{Operand, Operation};
+use few::Few;
 use reader::shapes::same;
 use statements::loop_text::{defines, is_defined};
 use statements::statement::{Action, Statement, Use, Written};
@@ -29,12 +32,7 @@ fn defines_above(s: &Statement, word: &[u8], line: usize) -> bool
 fn is_defined_above(statements: &[Statement], word: &[u8], line: usize) -> bool
     ensures { result ≡ some (λ s. same_name word.now s.defines && nat_lt s.line line) (all_seen statements.now) }
 {
-    for s in statements {
-        if defines_above(s, word, line) {
-            return true;
-        }
-    }
-    false
+    statements.iter().any(|s| defines_above(s, word, line))
 }
 
 // Whether what an operand names is known.
@@ -97,12 +95,10 @@ fn check_uses(statements: &[Statement]) -> Result<(), GraphFault>
 fn definer_of(statements: &[Statement], word: &[u8]) -> usize
     ensures { result ≡ definer_of (all_seen statements.now) word.now }
 {
-    for (i, s) in statements.iter().enumerate() {
-        if defines(s, word) {
-            return i;
-        }
-    }
-    statements.len()
+    statements
+        .iter()
+        .position(|s| defines(s, word))
+        .unwrap_or(statements.len())
 }
 
 fn resolve_use(statements: &[Statement], u: Use) -> Operand
@@ -120,29 +116,18 @@ fn resolve_use(statements: &[Statement], u: Use) -> Operand
 fn resolve_action(statements: &[Statement], action: Action) -> Operation
     ensures { operation_seen result ≡ on_operands (λ u. resolved (all_seen statements.now) u.operand) (action_seen action) }
 {
-    match action {
-        Action::Load(cell) => Operation::Load(cell),
-        Action::Store(value, cell) => Operation::Store(resolve_use(statements, value), cell),
-        Action::Binary(operator, left, right) => Operation::Binary(
-            operator,
-            resolve_use(statements, left),
-            resolve_use(statements, right),
-        ),
-        Action::Move(value) => Operation::Move(resolve_use(statements, value)),
-    }
+    action.map(|u| resolve_use(statements, u))
 }
 
 // The operations of all statements, each name by its definer.
-fn resolve_all(statements: &[Statement]) -> [Operation; 32]
-    requires { length statements.now ≤ 32 }
-    ensures whole { length result ≡ 32 }
-    ensures value { operations_seen (take (length statements.now) result) ≡ loop_of (all_seen statements.now) }
+fn resolve_all(statements: &Statements) -> Few<Operation, 32>
+    ensures { operations_seen (held result) ≡ loop_of (statements_seen statements.now) }
 {
-    let mut operations = [Operation::Move(Operand::Literal(0)); 32];
-    for (i, s) in statements.iter().enumerate() {
-        operations[i] = resolve_action(statements, s.action);
-    }
-    operations
+    let said = statements.items.as_slice();
+    let nothing = Operation::Move(Operand::Literal(0));
+    statements
+        .items
+        .map(nothing, |s| resolve_action(said, s.action))
 }
 
 impl Loop {
@@ -151,11 +136,17 @@ impl Loop {
         ensures { loop_answered result ≡ on_err text_fault (read_loop text.now) }
     {
         let statements = Statements::read(text)?;
-        let said = &statements.items[0..statements.count];
-        check_uses(said)?;
+        check_uses(statements.items.as_slice())?;
         Ok(Loop {
-            operations: resolve_all(said),
-            count: said.len(),
+            body: resolve_all(&statements),
         })
+    }
+
+    // The operations, in text order.
+    pub fn operations(&self) -> &[Operation]
+        ensures operations { operations_seen result.now ≡ loop_seen self.now }
+        ensures few { length result.now ≤ 32 }
+    {
+        self.body.as_slice()
     }
 }

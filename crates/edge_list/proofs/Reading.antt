@@ -10,8 +10,7 @@ use Rattle.edge_laws.proofs.Pieces.{pair_is}
 use Rattle.texts.specs.declared.machine.Machine.{Machine}
 use Rattle.texts.specs.Records.{machine_seen}
 use Rattle.dependence.specs.declared.loops.Loop.{Loop}
-use Rattle.dependence.specs.declared.operation.Operation.{Operation}
-use Rattle.dependence.specs.Operations.{operation_seen}
+use Rattle.dependence.specs.Operations.{OwnOperation, operation_seen}
 use Rattle.dependence.specs.Loops.{loop_seen}
 use Rattle.edge_list.specs.Lists.{hardware_of}
 
@@ -19,7 +18,7 @@ module _ (l : Loop) where
   pub seen_count : length (loop_seen l) ≡ l.count
   seen_count = length-map (take l.count l.operations) operation_seen ∙ length-take-le l.count l.operations (omega (arith, l.whole, l.few))
 
-  module _ (p : ℕ) (h : p < l.count) (d : Operation) where
+  module _ (p : ℕ) (h : p < l.count) (d : OwnOperation) where
     taken : p < length (take l.count l.operations)
     taken = omega (arith, length-take-le l.count l.operations (omega (arith, l.whole, l.few)))
 
@@ -35,7 +34,7 @@ module _ (l : Loop) where
   no_latency m p h = ap (λ t. t.latency) (get_or_past (map (λ o. timing_of (machine_seen m) (code_of o)) (loop_seen l)) p _ (omega (arith, length-map (loop_seen l) (λ o. timing_of (machine_seen m) (code_of o)), seen_count)))
 
 -- The edges between two lines, by what the code finds of them.
-module _ (l : Loop) (p q : ℕ) (order : p < q) (inside : q < l.count) (d : Operation) (w v : ℕ) (on off : Option ℕ) (a b : Option Edge) where
+module _ (l : Loop) (p q : ℕ) (order : p < q) (inside : q < l.count) (d : OwnOperation) (w v : ℕ) (on off : Option ℕ) (a b : Option Edge) where
   abbrev x : ModelOperation Operand
   x = operation_seen (get_or l.operations p d)
 

@@ -7,7 +7,7 @@ ghost use Rattle.dependence.specs.Operations.{operation_seen};
 ghost use Rattle.edge_list.specs.Cells.{cell_in};
 
 use dependence::operation::Operation;
-use statements::statement::Cell;
+use operations::Cell;
 
 // From this distance on a schedule's stages keep the order by themselves.
 const TOO_FAR: usize = 8;

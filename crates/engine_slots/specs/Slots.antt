@@ -6,19 +6,16 @@ use Rattle.model.specs.Limits.{timing}
 use Rattle.model.specs.Issues as issues
 use Rattle.code.specs.declared.issue.Source.{Source}
 use Rattle.code.specs.declared.issue.Source.TheVariants.{Literal, Register}
-use Rattle.code.specs.declared.issue.Operation.{Operation}
-use Rattle.code.specs.declared.issue.Operation.TheVariants.{Load, Store, Binary, Move}
+use Rattle.operations.specs.declared.operation.Operation.{Operation}
+use Rattle.operations.specs.Seen.{seen, EachOwn}
 use Rattle.engine_slots.specs.declared.slot.Slot.{Slot}
 
 abbrev pub source_of : Source → issues.Source
 source_of (Literal z) = issues.constant z
 source_of (Register r) = issues.register r
 
-abbrev pub operation_of : Operation → loops.Operation issues.Source
-operation_of (Load c) = loops.load c.stride c.offset
-operation_of (Store a c) = loops.store (source_of a) c.stride c.offset
-operation_of (Binary o a b) = loops.binary o (source_of a) (source_of b)
-operation_of (Move a) = loops.move (source_of a)
+abbrev pub operation_of : Operation Source → loops.Operation issues.Source
+operation_of o = seen source_of o
 
 abbrev pub slot_of : Slot → issues.Slot
 slot_of s = record {
@@ -35,11 +32,8 @@ abbrev pub SourceWithin : ℕ → Source → Type 0
 SourceWithin file (Literal z) = Unit {0}
 SourceWithin file (Register r) = r < file
 
-abbrev pub OperationWithin : ℕ → Operation → Type 0
-OperationWithin file (Load c) = Unit {0}
-OperationWithin file (Store a c) = SourceWithin file a
-OperationWithin file (Binary o a b) = SourceWithin file a × SourceWithin file b
-OperationWithin file (Move a) = SourceWithin file a
+abbrev pub OperationWithin : ℕ → Operation Source → Type 0
+OperationWithin file o = EachOwn (SourceWithin file) o
 
 -- What the machine's tables can follow: eight classes, and eight cycles ahead.
 pub record TimingHeld (t : Timing) : Type 0 where

@@ -13,10 +13,10 @@ use Rattle.model.specs.Driving as driving
 use Rattle.model.specs.Driving.{put, source_value}
 use Rattle.engine_laws.specs.Parts.{slot_value, statuses, waitings, memories}
 use Rattle.engine_laws.specs.Dues.{Awaited, Pending, Pushed}
-use Rattle.statements.specs.declared.statement.Cell.{Cell}
+use Rattle.operations.specs.declared.operation.Cell.{Cell}
 use Rattle.code.specs.declared.issue.Source.{Source}
-use Rattle.code.specs.declared.issue.Operation.{Operation}
-use Rattle.code.specs.declared.issue.Operation.TheVariants.{Load, Store, Binary, Move}
+use Rattle.operations.specs.declared.operation.Operation.{Operation}
+use Rattle.operations.specs.declared.operation.Operation.TheVariants.{Load, Store, Binary, Move}
 use Rattle.engine_slots.specs.declared.slot.Slot.{Slot}
 use Rattle.engine_writes.specs.declared.waiting.Waiting.{Waiting}
 use Rattle.engine_slots.specs.Slots.{slot_of, operation_of, source_of}
@@ -33,7 +33,7 @@ module _ {V : Type 0} (dom : Domain V) (values : List V) (p : ℕ) (slot : Slot)
   unfolding memories written
   other_writes not_store cells = go slot.operation refl
     where
-      go : (o : Operation) → slot.operation ≡ o → memory ≡ written (operation_of slot.operation) (p - slot.stage) (slot_value dom (value_file (nought dom) values) cells p (slot_of slot)) memory
+      go : (o : Operation Source) → slot.operation ≡ o → memory ≡ written (operation_of slot.operation) (p - slot.stage) (slot_value dom (value_file (nought dom) values) cells p (slot_of slot)) memory
       go (Load c) e = rw e refl
       go (Store a c) e = absurd (not_store a c e)
       go (Binary o a b) e = rw e refl

@@ -9,7 +9,7 @@ ghost use Rattle.engine_writes.specs.Files.{value_file};
 use code::issue::{Operation, Source};
 use model::Operator;
 use reach::reaching::find_cell;
-use statements::statement::Cell;
+use operations::Cell;
 use values::domain::Domain;
 
 // What an operand is worth.

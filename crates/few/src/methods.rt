@@ -1,5 +1,6 @@
 // How a list is made, read and filled.
 ghost use Rattle.std.specs.Prelude.{◌≡◌, ◌≤◌, [], length};
+ghost use Rattle.std.specs.List.{AllZip};
 ghost use Rattle.few.specs.Held.{held, Pushed};
 
 use crate::list::{Few, Full};
@@ -22,6 +23,21 @@ impl<T: Copy, const N: usize> Few<T, N> {
     {
         let items = &self.items[..];
         &items[..self.len]
+    }
+
+    // What a function makes of each item, in order. The value stands at places that say nothing.
+    pub fn map<B: Copy, F: Fn(T) -> B>(&self, blank: B, f: F) -> Few<B, N>
+        requires { F.IsAlwaysCallable f }
+        ensures { AllZip (F.post f) (held self.now) (held result) }
+    {
+        let mut items = [blank; N];
+        for (place, item) in self.as_slice().iter().enumerate() {
+            items[place] = f(*item);
+        }
+        Few {
+            items,
+            len: self.len,
+        }
     }
 
     // Puts an item behind the others. Where there are N it changes nothing.

@@ -14,11 +14,10 @@ use Rattle.model.specs.Codes.{CodeSource}
 use Rattle.model.specs.declared.Part.{Part}
 use Rattle.model.specs.declared.Timing.{Timing}
 use Rattle.dependence.specs.declared.loops.Loop.{Loop as OwnLoop}
-use Rattle.dependence.specs.declared.operation.Operation.{Operation as OwnOperation}
 use Rattle.dependence.specs.declared.operation.Operand.{Operand as OwnOperand}
 use Rattle.dependence.specs.declared.operation.Operand.TheVariants.{Literal, Variable}
-use Rattle.dependence.specs.declared.operation.Operation.TheVariants.{Load, Store, Binary, Move}
-use Rattle.dependence.specs.Operations.{operand_seen, operation_seen}
+use Rattle.operations.specs.declared.operation.Operation.TheVariants.{Load, Store, Binary, Move}
+use Rattle.dependence.specs.Operations.{OwnOperation, operand_seen, operation_seen}
 use Rattle.dependence.specs.Loops.{loop_seen}
 use Rattle.listing.specs.declared.body.Body.{Body}
 use Rattle.listing.specs.Views.{loop_of, schedule_of, KnownOperand, KnownOperands}

@@ -6,8 +6,8 @@ use Rattle.model.specs.Codes.{CodeSource}
 use Rattle.model.specs.Listing as listings
 use Rattle.dependence.specs.declared.operation.Operand.{Operand}
 use Rattle.dependence.specs.declared.operation.Operand.TheVariants.{Literal, Variable}
-use Rattle.dependence.specs.declared.operation.Operation.{Operation}
-use Rattle.dependence.specs.declared.operation.Operation.TheVariants.{Load, Store, Binary, Move}
+use Rattle.dependence.specs.Operations.{OwnOperation}
+use Rattle.operations.specs.declared.operation.Operation.TheVariants.{Load, Store, Binary, Move}
 use Rattle.dependence.specs.Loops.{loop_seen}
 use Rattle.code.specs.declared.issue.Source.{Source}
 use Rattle.code.specs.Seen.{source_seen}
@@ -44,7 +44,7 @@ abbrev pub KnownOperand : ℕ → Operand → Type 0
 KnownOperand n (Literal z) = Unit {0}
 KnownOperand n (Variable p d) = p < n
 
-abbrev pub KnownOperands : ℕ → Operation → Type 0
+abbrev pub KnownOperands : ℕ → OwnOperation → Type 0
 KnownOperands n (Load c) = Unit {0}
 KnownOperands n (Store a c) = KnownOperand n a
 KnownOperands n (Binary o a b) = KnownOperand n a × KnownOperand n b

@@ -11,7 +11,7 @@ use crate::slot::Slot;
 use code::form::Code as CodeForm;
 use code::issue::{Issue, Operation, Source};
 use model::{Code, Operator};
-use statements::statement::Cell;
+use operations::Cell;
 
 fn or_zero(number: Option<usize>) -> usize
     ensures { result ≡ or_zero number }

@@ -4,8 +4,7 @@ use Rattle.std.proofs.lemmas.List.{get_or-map, get_or-take, length-take-le, leng
 use Rattle.model.specs.Loop.{Loop, Operand, literal, variable, Operation, load, store, binary, move, op, EachOperand, Named}
 use Rattle.text_laws.proofs.Formed.{sound_named}
 use Rattle.dependence.specs.declared.loops.Loop.{Loop as OwnLoop}
-use Rattle.dependence.specs.declared.operation.Operation.{Operation as OwnOperation}
-use Rattle.dependence.specs.Operations.{operation_seen}
+use Rattle.dependence.specs.Operations.{OwnOperation, operation_seen}
 use Rattle.dependence.specs.Loops.{loop_seen}
 use Rattle.lives.specs.Reads.{Near}
 

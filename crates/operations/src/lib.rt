@@ -4,4 +4,4 @@
 mod asking;
 mod operation;
 
-pub use operation::{Cell, Operation};
+pub use operation::{Cell, Operand, Operation};

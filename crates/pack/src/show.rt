@@ -2,7 +2,8 @@
 use dependence::loops::Loop;
 use dependence::operation::{Operand, Operation};
 use model::{Operator, Timing};
-use statements::statement::{Cell, Statement};
+use operations::Cell;
+use statements::statement::Statement;
 use statements::statements::Statements;
 use std::alloc::{AllocError, Global};
 use std::io;

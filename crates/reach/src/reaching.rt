@@ -8,7 +8,7 @@ ghost use Rattle.reach.specs.Cells.{cell_held};
 
 use dependence::loops::Loop;
 use dependence::operation::Operation;
-use statements::statement::Cell;
+use operations::Cell;
 
 // The cell of an iteration, if it is one of so many.
 pub fn find_cell(cell: Cell, iteration: usize, cells: usize) -> Option<usize>

@@ -12,9 +12,9 @@ use Rattle.texts.specs.declared.name.Name.{Name}
 use Rattle.statements.specs.declared.statement.Written.{Written as OwnWritten}
 use Rattle.statements.specs.declared.statement.Written.TheVariants.{Numeral, Named}
 use Rattle.statements.specs.declared.statement.Use.{Use as OwnUse}
-use Rattle.statements.specs.declared.statement.Cell.{Cell}
-use Rattle.statements.specs.declared.statement.Action.{Action}
-use Rattle.statements.specs.declared.statement.Action.TheVariants.{Load, Store, Binary, Move}
+use Rattle.operations.specs.declared.operation.Cell.{Cell}
+use Rattle.operations.specs.declared.operation.Operation.{Operation as OwnOperation}
+use Rattle.operations.specs.Seen.{seen}
 use Rattle.statements.specs.declared.statement.Statement.{Statement as OwnStatement}
 use Rattle.texts.specs.Seen.{name_seen, text, wordy, digits, is_none}
 
@@ -25,11 +25,8 @@ written_seen (Named n d) = name (name_seen n) d
 abbrev pub use_seen : OwnUse → Use
 use_seen u = record { operand = written_seen u.operand; line = u.line; column = u.column }
 
-abbrev pub action_seen : Action → Operation Use
-action_seen (Load c) = load c.stride c.offset
-action_seen (Store u c) = store (use_seen u) c.stride c.offset
-action_seen (Binary o a b) = binary o (use_seen a) (use_seen b)
-action_seen (Move u) = move (use_seen u)
+abbrev pub action_seen : OwnOperation OwnUse → Operation Use
+action_seen a = seen use_seen a
 
 abbrev pub defined_seen : Option Name → Option (List ℕ)
 defined_seen None = None

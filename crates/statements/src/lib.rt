@@ -5,5 +5,6 @@ pub(crate) mod loop_form;
 pub mod loop_text;
 pub(crate) mod operands;
 pub mod readings;
+pub mod shown;
 pub mod statement;
 pub mod statements;

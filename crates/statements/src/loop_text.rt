@@ -1,10 +1,11 @@
 // The reading of the loop text, but for the question whether each name that is read is known.
-ghost use Rattle.std.specs.Prelude.{◌≡◌, ℕ, ◌+◌, ◌-◌, ◌<◌, ◌≤◌, Bool, true, false, not, ◌&&◌, ◌||◌, [], ◌∷◌, ◌++◌, length, take, Some, None, Ok};
+ghost use Rattle.std.specs.Prelude.{◌≡◌, ℕ, ◌+◌, ◌-◌, ◌<◌, ◌≤◌, Bool, true, false, not, ◌&&◌, ◌||◌, [], ◌∷◌, ◌++◌, length, Some, None, Ok};
+ghost use Rattle.few.specs.Held.{held};
 ghost use Rattle.model.specs.Shapes.{is_name, value as amount_of};
 ghost use Rattle.model.specs.Lines.{lines_of};
 ghost use Rattle.model.specs.Questions.{asked, at_line, each, check, first_no, unless, no_or, read_lines};
 ghost use Rattle.model.specs.LoopText.{checks_by, operation_by, operand_check, a_stride, an_offset, use_of, is_defined, same_name, statement_rules, read_statements, memory_operations, defined_by, name_in, named_by};
-ghost use Rattle.model.specs.Loop.{load, store, binary, move, in_memory as touches_memory};
+ghost use Rattle.model.specs.Loop.{load, store, binary, move};
 ghost use Rattle.reader.specs.Seen.{shown};
 ghost use Rattle.reader.specs.Rows.{or_none, Fit};
 ghost use Rattle.texts.specs.Seen.{told, line_step};
@@ -142,36 +143,25 @@ fn name_for(
     Ok(Some(Name::new(word)))
 }
 
-impl Action {
-    // Loads and stores touch memory.
-    pub(crate) fn in_memory(&self) -> bool
-        ensures { result ≡ touches_memory (action_seen self.now) }
-    {
-        match self {
-            Action::Load(_) => true,
-            Action::Store(_, _) => true,
-            Action::Binary(_, _, _) => false,
-            Action::Move(_) => false,
-        }
-    }
+// How many of the statements are loads and stores.
+fn count_in_memory(statements: &[Statement]) -> usize
+    ensures { result ≡ memory_operations (all_seen statements.now) }
+{
+    statements
+        .iter()
+        .filter(|s| s.action.cell().is_some())
+        .count()
 }
 
 // One statement more, unless there is no room for it.
 fn push(m: &mut Statements, s: Statement) -> Result<(), TextFault>
-    ensures { told result (all_seen (take m.new.count m.new.items)) ≡ push_step (all_seen (take m.old.count m.old.items)) (statement_seen s) }
+    ensures { told result (all_seen (held m.new.items)) ≡ push_step (all_seen (held m.old.items)) (statement_seen s) }
 {
-    let n = m.count;
-    if n >= 32 {
-        return Err(TextFault::ManyOperations { line: s.line });
+    let fault = TextFault::ManyOperations { line: s.line };
+    if s.action.cell().is_some() && count_in_memory(m.items.as_slice()) >= MOST_IN_MEMORY {
+        return Err(fault);
     }
-    let touches = m.in_memory + usize::from(s.action.in_memory());
-    if touches > MOST_IN_MEMORY {
-        return Err(TextFault::ManyOperations { line: s.line });
-    }
-    m.items[n] = s;
-    m.count = n + 1;
-    m.in_memory = touches;
-    Ok(())
+    m.items.push(s).map_err(|_| fault)
 }
 
 // A line that has a form.
@@ -181,10 +171,10 @@ fn form_line(m: &mut Statements, number: usize, code: Code, row: Row<'_>) -> Res
     requires t3 { Fit (or_none (shown row.t3)) }
     requires t4 { Fit (or_none (shown row.t4)) }
     requires name { is_store code ≡ false → is_name (or_none (shown row.t0)).bytes ≡ true }
-    ensures { told result (all_seen (take m.new.count m.new.items)) ≡ form_step (all_seen (take m.old.count m.old.items)) number code (row_tokens (shown row.entry.t0) (shown row.entry.t1) (shown row.entry.t2) (shown row.entry.t3) (shown row.entry.t4)) }
+    ensures { told result (all_seen (held m.new.items)) ≡ form_step (all_seen (held m.old.items)) number code (row_tokens (shown row.entry.t0) (shown row.entry.t1) (shown row.entry.t2) (shown row.entry.t3) (shown row.entry.t4)) }
 {
     let action = action_of(code, row)?;
-    let defines = name_for(code, row.t0, &m.items[0..m.count])?;
+    let defines = name_for(code, row.t0, m.items.as_slice())?;
     push(
         m,
         Statement {
@@ -197,7 +187,7 @@ fn form_line(m: &mut Statements, number: usize, code: Code, row: Row<'_>) -> Res
 
 // One line of a loop text.
 pub(crate) fn loop_line(m: &mut Statements, line: &[u8], number: usize) -> Result<(), TextFault>
-    ensures { told result (all_seen (take m.new.count m.new.items)) ≡ line_step statement_rules (all_seen (take m.old.count m.old.items)) (record { number = number; bytes = line.now }) }
+    ensures { told result (all_seen (held m.new.items)) ≡ line_step statement_rules (all_seen (held m.old.items)) (record { number = number; bytes = line.now }) }
 {
     if !all_between(line, 32, 126) {
         return Err(TextFault::Unprintable { line: number });

@@ -7,7 +7,8 @@ ghost use Rattle.reader.specs.Rows.{or_none, Fit};
 ghost use Rattle.statements.specs.Statements.{written_seen, use_seen, in_range_or, cell_seen};
 ghost use Rattle.texts.specs.Seen.{answered};
 
-use crate::statement::{Cell, Use, Written};
+use crate::statement::{Use, Written};
+use operations::Cell;
 use reader::row::part_of;
 use reader::shapes::{after_at, byte_at, name_of, tail};
 use reader::token::Token;

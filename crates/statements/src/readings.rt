@@ -9,6 +9,7 @@ ghost use Rattle.statements.specs.Records.{statements_seen};
 use crate::loop_text::loop_line;
 use crate::statement::{Action, Statement, Use, Written};
 use crate::statements::Statements;
+use few::Few;
 use reader::lines::line_end;
 use texts::fault::TextFault;
 use texts::readings::is_too_long;
@@ -26,7 +27,7 @@ fn loop_lines(m: &mut Statements, text: &[u8]) -> Result<(), TextFault>
         at = end + 1;
         number += 1;
     }
-    if m.count == 0 {
+    if m.items.as_slice().is_empty() {
         return Err(TextFault::NoOperation);
     }
     Ok(())
@@ -50,9 +51,7 @@ impl Statements {
             }),
         };
         let mut statements = Statements {
-            items: [unsaid; 32],
-            count: 0,
-            in_memory: 0,
+            items: Few::new(unsaid),
         };
         loop_lines(&mut statements, text)?;
         Ok(statements)

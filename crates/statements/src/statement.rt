@@ -1,5 +1,5 @@
 // The lines of a loop text, their names not yet looked up.
-use model::Operator;
+use operations::Operation;
 use texts::name::Name;
 
 // An operand as it is written: a literal, or a name for the value of so many iterations earlier.
@@ -17,20 +17,8 @@ pub struct Use {
     pub column: usize,
 }
 
-// In iteration i this is the cell stride * i + offset.
-#[derive(Clone, Copy)]
-pub struct Cell {
-    pub stride: usize,
-    pub offset: usize,
-}
-
-#[derive(Clone, Copy)]
-pub enum Action {
-    Load(Cell),
-    Store(Use, Cell),
-    Binary(Operator, Use, Use),
-    Move(Use),
-}
+// What a line does, over operands as they are written.
+pub type Action = Operation<Use>;
 
 // An operation, with the name that its line defines; a store defines none.
 #[derive(Clone, Copy)]

@@ -6,6 +6,8 @@ use Rattle.model.specs.Lines.{Line, tokens}
 use Rattle.model.specs.LoopText.{form_of, memory_operations}
 use Rattle.reader.specs.Seen.{shown}
 use Rattle.reader.proofs.Walk.{kind_fits, tok_same, name_at}
+use Rattle.few.specs.Held.{held}
+use Rattle.few.proofs.Lengths.{held_few}
 use Rattle.statements.specs.Statements.{all_seen, statement_seen}
 use Rattle.texts.proofs.LineSteps.{none_shown, some_shown}
 use Rattle.statements.proofs.LoopSteps.{form_same, begins_named, from_row, line_1, line_2, line_3, line_form}
@@ -14,7 +16,7 @@ use Rattle.statements.proofs.loop_text.loop_line.Goals as goal
 pub returns-then-not-all_between : goal.returns-then-not-all_between
 returns-then-not-all_between c =
     let m = c.args.m.now in
-    line_1 (all_seen (take m.count m.items)) (record { number = c.args.number; bytes = c.args.line.now }) (sym c.all_between.ensures ∙ c.if-not-all_between.true)
+    line_1 (all_seen (held m.items)) (record { number = c.args.number; bytes = c.args.line.now }) (sym c.all_between.ensures ∙ c.if-not-all_between.true)
 
 pub form_line-requires : goal.form_line-requires
 form_line-requires c =
@@ -35,7 +37,7 @@ pub returns-in-Some : goal.returns-in-Some
 returns-in-Some c =
     let l : Line = record { number = c.args.number; bytes = c.args.line.now } in
     let m = c.args.m.now in
-    let ss = all_seen (take m.count m.items) in
+    let ss = all_seen (held m.items) in
     let r = c.row_of-row.result in
     let row = c.row_of-row.ensures in
     let e : every (between 32 126) l.bytes ≡ true = sym c.all_between.ensures ∙ c.if-not-all_between.false in
@@ -48,10 +50,10 @@ pub returns-then-is_none : goal.returns-then-is_none
 returns-then-is_none c =
     let l : Line = record { number = c.args.number; bytes = c.args.line.now } in
     let m = c.args.m.now in
-    let ss = all_seen (take m.count m.items) in
+    let ss = all_seen (held m.items) in
     let e : every (between 32 126) l.bytes ≡ true = sym c.all_between.ensures ∙ c.if-not-all_between.false in
-    let few : leb (length ss) 32 ≡ true = le-leb _ _ (omega (arith, length-map (take m.count m.items) statement_seen, length-take m.count m.items, m.few)) in
-    let light : leb (memory_operations ss) 16 ≡ true = le-leb _ _ (omega (arith, m.counted, m.light)) in
+    let few : leb (length ss) 32 ≡ true = le-leb _ _ (omega (arith, length-map (held m.items) statement_seen, held_few m.items)) in
+    let light : leb (memory_operations ss) 16 ≡ true = le-leb _ _ (omega (arith, m.light)) in
     line_2 ss l e few light (sym c.row_of-row.ensures.t0 ∙ none_shown c.row_of-row.result.t0 c.if-is_none.ensures)
 
 pub returns-else-is_none : goal.returns-else-is_none
@@ -61,5 +63,5 @@ returns-else-is_none c =
     let r = c.row_of-row.result in
     let row = c.row_of-row.ensures in
     let e : every (between 32 126) l.bytes ≡ true = sym c.all_between.ensures ∙ c.if-not-all_between.false in
-    line_3 (all_seen (take m.count m.items)) l e (λ q. some_shown r.t0 c.if-is_none.ensures (row.t0 ∙ q))
+    line_3 (all_seen (held m.items)) l e (λ q. some_shown r.t0 c.if-is_none.ensures (row.t0 ∙ q))
     (sym (form_same l _ _ _ _ _ _ row.t0 row.t1 row.t2 row.t3 row.t4 row.t5) ∙ sym c.in-None.ensures)

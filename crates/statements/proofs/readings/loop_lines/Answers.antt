@@ -2,6 +2,7 @@ use Rattle.std.proofs.Common.{◌≡◌, true, false, leb, length, take, Err, sy
 use Rattle.std.proofs.lemmas.Result.{err_from_is_err_and}
 use Rattle.std.proofs.lemmas.List.{length-map}
 use Rattle.std.proofs.lemmas.Bool.{le-leb, lt-leb}
+use Rattle.few.specs.Held.{held}
 use Rattle.statements.specs.Statements.{statement_seen}
 use Rattle.model.specs.LoopText.{statement_rules}
 use Rattle.texts.specs.Faults.{refusal}
@@ -27,15 +28,3 @@ loop-at-preserved c =
       sym (line_on statement_rules (statements_seen c.loop-at.m) c.args.text.now c.loop-at.at c.line_end-end.result c.loop-at.number c.loop-at-test.true le.value
           (statements_seen c.loop_line.new.m) c.in_ok-loop_line.ensures) ∙ inv.3,
     )
-
-pub returns-then-m-eq0 : goal.returns-then-m-eq0
-returns-then-m-eq0 c =
-    let m = c.loop-at.m in
-    let off : leb 1 (length (statements_seen m)) ≡ false = lt-leb 1 _ (omega (arith, length-map (take m.count m.items) statement_seen, length-take m.count m.items, c.if-m-eq0.true)) in
-    sym (past statement_rules (statements_seen m) c.args.text.now c.loop-at.at c.loop-at.number c.loop-at-test.false ∙ simp off) ∙ c.loop-at.invariant.3
-
-pub returns : goal.returns
-returns c =
-    let m = c.loop-at.m in
-    let on : leb 1 (length (statements_seen m)) ≡ true = le-leb 1 _ (omega (arith, length-map (take m.count m.items) statement_seen, length-take m.count m.items, m.whole, c.if-m-eq0.false)) in
-    sym (past statement_rules (statements_seen m) c.args.text.now c.loop-at.at c.loop-at.number c.loop-at-test.false ∙ simp on) ∙ c.loop-at.invariant.3

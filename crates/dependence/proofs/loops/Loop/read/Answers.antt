@@ -1,4 +1,5 @@
-use Rattle.std.proofs.Common.{◌≡◌, ◌-◌, take, None, Ok, Err, sym, ap, ◌∙◌, arith, length-take}
+use Rattle.std.proofs.Common.{◌≡◌, List, None, Ok, Err, sym, ap, ◌∙◌}
+use Rattle.statements.specs.declared.statement.Statement.{Statement}
 use Rattle.std.proofs.lemmas.Result.{err_from_is_err_and}
 use Rattle.model.specs.Questions.{no_or, reading}
 use Rattle.model.specs.LoopText.{loop_rules, loop_of, on_ok, uses_of}
@@ -13,6 +14,9 @@ use Rattle.dependence.specs.Known.{uses_known}
 use Rattle.dependence.proofs.Split.{refused_before, then_seven, same_fault, by_seven, passed_seven}
 use Rattle.dependence.proofs.loops.Loop.read.Goals as goal
 
+asked : {xs ys : List Statement} → xs ≡ ys → no_or 7 (uses_known (all_seen xs) (uses_of (all_seen xs))) None ≡ no_or 7 (uses_known (all_seen ys) (uses_of (all_seen ys))) None
+asked e = ap (λ ss. no_or 7 (uses_known (all_seen ss) (uses_of (all_seen ss))) None) e
+
 pub returns-in_err-statements : goal.returns-in_err-statements
 returns-in_err-statements c =
     let p = err_from_is_err_and c.from_residual.result c.from_residual.ensures.1 in
@@ -23,34 +27,21 @@ returns-in_err-statements c =
 pub returns-in_err-check_uses : goal.returns-in_err-check_uses
 returns-in_err-check_uses c =
     let p = err_from_is_err_and c.from_residual-in_err-check_uses.result c.from_residual-in_err-check_uses.ensures.1 in
-    let text = c.args.text.now in
-    let s = c.in_ok-statements.statements in
-    let whole : s.count - 0 ≡ s.count = omega arith in
+    let s = statements_seen c.in_ok-statements.statements in
     ap loop_answered p.1 ∙ ap (λ f. Err (fault f)) p.2
-    ∙ by_seven (statements_seen s) c.in_err-check_uses.field-0.0
-    (c.in_err-check_uses.ensures ∙ ap (λ k. no_or 7 (uses_known (all_seen (take k s.items)) (uses_of (all_seen (take k s.items)))) None) whole)
-    ∙ sym (ap (λ r. on_err text_fault (on_ok loop_of r)) (then_seven text (statements_seen s) c.in_ok-statements.ensures))
+    ∙ by_seven s c.in_err-check_uses.field-0.0 (c.in_err-check_uses.ensures ∙ asked c.as_slice.ensures.items)
+    ∙ sym (ap (λ r. on_err text_fault (on_ok loop_of r)) (then_seven c.args.text.now s c.in_ok-statements.ensures))
 
 pub invariant_of-result : goal.invariant_of-result
 invariant_of-result c =
     let text = c.args.text.now in
-    let s = c.in_ok-statements.statements in
-    let whole : s.count - 0 ≡ s.count = omega arith in
-    let known : None ≡ no_or 7 (uses_known (statements_seen s) (uses_of (statements_seen s))) None = c.in_ok-check_uses.ensures ∙ ap (λ k. no_or 7 (uses_known (all_seen (take k s.items)) (uses_of (all_seen (take k s.items)))) None) whole in
-    let read : reading loop_rules text ≡ Ok (statements_seen s) = then_seven text (statements_seen s) c.in_ok-statements.ensures ∙ passed_seven (statements_seen s) known in
-    let value = c.resolve_all.ensures.value ∙ ap (λ k. loop_of (all_seen (take k s.items))) whole in
-    record {
-      whole = c.resolve_all.ensures.whole;
-      few = omega (arith, length-take (s.count - 0) s.items, s.whole, s.few);
-      sound = ap sound_loop value ∙ is_sound_loop text (statements_seen s) read;
-    }
+    let s = statements_seen c.in_ok-statements.statements in
+    let read : reading loop_rules text ≡ Ok s = then_seven text s c.in_ok-statements.ensures ∙ passed_seven s (c.in_ok-check_uses.ensures ∙ asked c.as_slice.ensures.items) in
+    record { sound = ap sound_loop c.resolve_all.ensures ∙ is_sound_loop text s read }
 
 pub returns : goal.returns
 returns c =
     let text = c.args.text.now in
-    let s = c.in_ok-statements.statements in
-    let whole : s.count - 0 ≡ s.count = omega arith in
-    let known : None ≡ no_or 7 (uses_known (statements_seen s) (uses_of (statements_seen s))) None = c.in_ok-check_uses.ensures ∙ ap (λ k. no_or 7 (uses_known (all_seen (take k s.items)) (uses_of (all_seen (take k s.items)))) None) whole in
-    let read : reading loop_rules text ≡ Ok (statements_seen s) = then_seven text (statements_seen s) c.in_ok-statements.ensures ∙ passed_seven (statements_seen s) known in
-    let value = c.resolve_all.ensures.value ∙ ap (λ k. loop_of (all_seen (take k s.items))) whole in
-    ap Ok value ∙ sym (ap (λ r. on_err text_fault (on_ok loop_of r)) read)
+    let s = statements_seen c.in_ok-statements.statements in
+    let read : reading loop_rules text ≡ Ok s = then_seven text s c.in_ok-statements.ensures ∙ passed_seven s (c.in_ok-check_uses.ensures ∙ asked c.as_slice.ensures.items) in
+    ap Ok c.resolve_all.ensures ∙ sym (ap (λ r. on_err text_fault (on_ok loop_of r)) read)
