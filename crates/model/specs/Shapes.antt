@@ -1,17 +1,15 @@
 -- The shapes of a token, the reserved words, and the forms of a line.
-use Rattle.std.specs.Prelude.{ℕ, ◌+◌, ◌-◌, ◌*◌, Bool, true, false, cond, ◌&&◌, ◌||◌, List, [], ◌∷◌, length, take, drop, Some, None, codes, fold, Option, ◌==◌, nat_le, slice_index}
-use Rattle.std.specs.List.{prefix_len}
+use Rattle.std.specs.Prelude.{ℕ, ◌+◌, ◌-◌, ◌*◌, Bool, true, false, cond, ◌&&◌, ◌||◌, List, [], ◌∷◌, length, take, drop, Some, None, codes, fold, Option, ◌==◌, nat_le, slice_index, is_some}
+use Rattle.std.specs.List.{prefix_len, list_all, list_any}
 use Rattle.std.specs.Str.{bytes_eq}
 use Rattle.model.specs.declared.Code.{Code}
 use Rattle.model.specs.declared.Code.TheVariants.{Load, Store, Add, Sub, Mul, Move}
 
 abbrev pub every : {X : Type 0} → (X → Bool) → List X → Bool
-every p [] = true
-every p (x ∷ xs) = p x && every p xs
+every p xs = list_all p xs
 
 abbrev pub some : {X : Type 0} → (X → Bool) → List X → Bool
-some p [] = false
-some p (x ∷ xs) = p x || some p xs
+some p xs = list_any p xs
 
 abbrev pub between : ℕ → ℕ → ℕ → Bool
 between lo hi n = nat_le lo n && nat_le n hi
@@ -65,8 +63,7 @@ code_of w =
     (cond (bytes_eq w (codes "move")) (Some Move) None)))))
 
 abbrev pub has_some : {X : Type 0} → Option X → Bool
-has_some None = false
-has_some (Some x) = true
+has_some o = is_some o
 
 -- unit, op, start and the six codes
 abbrev pub is_reserved : List ℕ → Bool
