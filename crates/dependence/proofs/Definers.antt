@@ -1,6 +1,12 @@
 -- Steps of the loops over statements.
-use Rattle.std.proofs.Common.{◌≡◌, ℕ, ◌+◌, ◌<◌, ◌≤◌, Bool, true, false, cond, List, [], ◌∷◌, ◌++◌, length, get_or, drop, Some, None, sym, refl, ap, ◌∙◌, arith}
-use Rattle.std.proofs.lemmas.List.{at_drop_more, at_drop_all}
+use Rattle.std.proofs.Common.{◌≡◌, ℕ, ◌+◌, ◌<◌, ◌≤◌, Bool, true, false, ◌||◌, cond, List, [], ◌∷◌, ◌++◌, map, ltb, not, length, get_or, drop, Some, None, sym, refl, ap, ◌∙◌, arith}
+use Rattle.std.proofs.lemmas.List.{at_drop_more}
+use Rattle.std.specs.Prelude.{unwrap_or}
+use Rattle.std.specs.List.{position_or_len}
+use Rattle.std.proofs.lemmas.List.Recursion.{is_position_or_len}
+use Rattle.std.proofs.lemmas.List.Sums.{prefix_len-le-length}
+use Rattle.std.proofs.lemmas.Bool.{ltb-false}
+use Rattle.model.specs.Shapes.{some}
 use Rattle.model.specs.Questions.{Answer, good, bad, Refusal, no_or}
 use Rattle.model.specs.Loop.{operands}
 use Rattle.model.specs.LoopText.{Use, Statement, same_name, definer, known_use, uses_of}
@@ -8,21 +14,21 @@ use Rattle.statements.specs.declared.statement.Statement.{Statement as OwnStatem
 use Rattle.statements.specs.Statements.{statement_seen, all_seen}
 use Rattle.dependence.specs.Known.{uses_known}
 
-module _ (w : List ℕ) (ss : List OwnStatement) (i n : ℕ) (inv : n ≡ i + definer (all_seen (drop i ss)) w) where
-  pub at_end : length ss ≤ i → i ≤ length ss → length ss ≡ n
-  at_end h k = omega (arith, at_drop_all (λ r. definer (all_seen r) w) ss i h)
+-- a test of what the elements are seen as
+pub some-map : {X Y : Type 0} (p : Y → Bool) (h : X → Y) (xs : List X) → some p (map h xs) ≡ some (λ x. p (h x)) xs
+some-map p h [] = refl
+some-map p h (x ∷ xs) = ap (λ b. p (h x) || b) (some-map p h xs)
 
-  module _ (x : OwnStatement) (h : i < length ss) (e : x ≡ get_or ss i x) where
-    one : definer (all_seen (drop i ss)) w ≡ cond (same_name w (statement_seen x).defines) 0 (1 + definer (all_seen (drop (i + 1) ss)) w)
-    one =
-        at_drop_more (λ r. definer (all_seen r) w) ss i x h
-        ∙ ap (λ y. cond (same_name w (statement_seen y).defines) 0 (1 + definer (all_seen (drop (i + 1) ss)) w)) (sym e)
+pub definer_at : (w : List ℕ) (xs : List OwnStatement) → definer (all_seen xs) w ≡ position_or_len (λ s. same_name w (statement_seen s).defines) xs
+definer_at w = is_position_or_len (λ ss. definer (all_seen ss) w) (λ s. same_name w (statement_seen s).defines) refl (λ x xs. refl)
 
-    pub hit : same_name w (statement_seen x).defines ≡ true → i ≡ n
-    hit t = let z : definer (all_seen (drop i ss)) w ≡ 0 = one ∙ simp t in omega arith
-
-    pub miss : same_name w (statement_seen x).defines ≡ false → n ≡ i + 1 + definer (all_seen (drop (i + 1) ss)) w
-    miss t = let z : definer (all_seen (drop i ss)) w ≡ 1 + definer (all_seen (drop (i + 1) ss)) w = one ∙ simp t in omega arith
+-- a place, or the length where there is none
+pub or_len : {X : Type 0} (p : X → Bool) (xs : List X) → unwrap_or (cond (ltb (position_or_len p xs) (length xs)) (Some (position_or_len p xs)) None) (length xs) ≡ position_or_len p xs
+or_len p xs = go (ltb (position_or_len p xs) (length xs)) refl
+  where
+    go : (b : Bool) → ltb (position_or_len p xs) (length xs) ≡ b → unwrap_or (cond b (Some (position_or_len p xs)) None) (length xs) ≡ position_or_len p xs
+    go true e = refl
+    go false e = let long : position_or_len p xs ≤ length xs = prefix_len-le-length (λ x. not (p x)) xs in let back : length xs ≤ position_or_len p xs = ltb-false _ _ e in let end : length xs ≡ position_or_len p xs = omega arith in end
 
 abbrev then_ask : Answer → Answer → Answer
 then_ask good b = b

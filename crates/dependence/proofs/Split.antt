@@ -1,6 +1,5 @@
 -- The loop text's reading in two layers: questions 1 to 6, then question 7.
-use Rattle.std.proofs.Common.{◌≡◌, ℕ, ◌+◌, ◌<◌, leb, List, [], ◌∷◌, ◌++◌, map, length, get_or, take, set, Some, None, Ok, Err, Option, Result, sym, refl, ap, ◌∙◌, arith}
-use Rattle.std.proofs.lemmas.List.{map_push, take_more, take_more_set}
+use Rattle.std.proofs.Common.{◌≡◌, ℕ, leb, List, [], ◌∷◌, length, Some, None, Ok, Err, Option, Result, sym, refl, ap, ◌∙◌, arith}
 use Rattle.model.specs.Lines.{Line, lines_of}
 use Rattle.model.specs.Questions.{Answer, good, bad, Refusal, at_line, first_no, no_or, unless, read_lines, before, reading}
 use Rattle.model.specs.Loop.{Operation, Operand, on_operands}
@@ -9,12 +8,9 @@ use Rattle.model.specs.Faults.{on_err, text_fault}
 use Rattle.texts.specs.declared.fault.TextFault.{TextFault}
 use Rattle.texts.specs.declared.fault.TextFault.TheVariants.{TooLong, Unprintable, NoForm, OutOfRange, WrongName, ManyClasses, CodeMissing, ManyOperations, NoOperation}
 use Rattle.texts.specs.Faults.{refusal}
-use Rattle.statements.specs.declared.statement.Statement.{Statement as OwnStatement}
-use Rattle.statements.specs.Statements.{statement_seen, all_seen}
 use Rattle.dependence.specs.declared.fault.GraphFault.{GraphFault}
 use Rattle.dependence.specs.declared.fault.GraphFault.TheVariants.{Text, UnknownName}
 use Rattle.dependence.specs.Faults.{fault}
-use Rattle.dependence.specs.Operations.{OwnOperation, operation_seen, operations_seen}
 use Rattle.dependence.specs.Known.{uses_known, refusal as graph_refusal}
 
 abbrev pub seven : List Statement → Result (List Statement) Refusal

@@ -1,8 +1,10 @@
 -- The last iteration touches the greatest cells.
-use Rattle.std.proofs.Common.{◌≡◌, ℕ, ◌+◌, ◌<◌, ◌≤◌, true, false, List, map, length, get_or, take, sym, refl, ap, ◌∙◌, inl, inr, mul-le-mul_left, arith}
-use Rattle.std.proofs.lemmas.List.{get_or-map, get_or-take, length-take-le, length-map}
+use Rattle.std.proofs.Common.{◌≡◌, ℕ, suc, ◌+◌, ◌<◌, ◌≤◌, Bool, true, false, List, [], ◌∷◌, length, get_or, sym, refl, ◌∙◌, inl, inr, mul-le-mul_left, arith}
+use Rattle.std.specs.Prelude.{Decides}
+use Rattle.std.specs.List.{list_all}
+use Rattle.std.proofs.lemmas.List.Folds.{list_all_at}
 use Rattle.std.proofs.lemmas.Bool.{ltb-true, lt-ltb}
-use Rattle.model.specs.Loop.{Operand, Operation, load, store, binary, move, op, cell}
+use Rattle.model.specs.Loop.{Loop, Operation, load, store, binary, move, op, cell}
 use Rattle.model.specs.MemoryOrder.{Touches}
 use Rattle.model.specs.Pipelining.{InMemory}
 use Rattle.reach.specs.Cells.{cell_held}
@@ -26,26 +28,21 @@ touched_held (store a s f) i cells all = lt-ltb _ _ (all (cell s f i) (inr refl)
 touched_held (binary c a b) i cells all = refl
 touched_held (move a) i cells all = refl
 
-module _ {X : Type 0} (seen : X → Operation Operand) (xs : List X) (count : ℕ) (long : count ≤ length xs) where
-  counted : length (map seen (take count xs)) ≡ count
-  counted = length-map (take count xs) seen ∙ length-take-le count xs long
+holds_at : {X : Type 0} (p : X → Bool) (xs : List X) (j : ℕ) (d : X) → list_all p xs ≡ true → j < length xs → p (get_or xs j d) ≡ true
+holds_at p xs j d all h = go (p (get_or xs j d)) refl
+  where
+    go : (b : Bool) → p (get_or xs j d) ≡ b → b ≡ true
+    go true e = refl
+    go false e = sym (list_all_at p xs j d h e) ∙ all
 
-  pub op_seen : (j : ℕ) (d : X) → j < count → op (map seen (take count xs)) j ≡ seen (get_or xs j d)
-  unfolding op
-  op_seen j d h =
-      get_or-map seen (take count xs) j d _ (omega (arith, length-take-le count xs long)) ∙ ap seen (get_or-take count xs j d h)
+holds_all : {X : Type 0} (p : X → Bool) (xs : List X) (d : X) → ((j : ℕ) → j < length xs → p (get_or xs j d) ≡ true) → list_all p xs ≡ true
+holds_all p [] d each = refl
+holds_all p (x ∷ xs) d each = rw (each 0 (omega arith)) (holds_all p xs d (λ j h. each (suc j) (omega arith)))
 
-  module _ (last cells : ℕ) where
-    -- all operations, by their last iteration
-    pub all_held : ((j : ℕ) → j < count → cell_held (op (map seen (take count xs)) j) last cells ≡ true) →
-        (trips : ℕ) → trips ≡ last + 1 → InMemory (map seen (take count xs)) trips cells
-    all_held held trips e j i x small run touches =
-        held_touched (op (map seen (take count xs)) j) i last cells x (omega arith) (held j (omega (arith, counted))) touches
-
-    pub one_not_held : (trips : ℕ) → trips ≡ last + 1 → (j : ℕ) → j < count → cell_held (op (map seen (take count xs)) j) last cells ≡ false →
-        InMemory (map seen (take count xs)) trips cells → ⊥
-    one_not_held trips e j small not_held all =
-        let held = touched_held (op (map seen (take count xs)) j) last cells (λ x. all j last x (omega (arith, counted)) (omega arith)) in
-        let z : true ≡ false = sym held ∙ not_held in
-        let n : ◌≡◌ {A = ℕ} 0 1 = cc in
-        omega arith
+-- The last iteration decides for all.
+pub all_decide : (ops : Loop) (trips last cells : ℕ) → trips ≡ last + 1 → Decides (list_all (λ o. cell_held o last cells) ops) (InMemory ops trips cells)
+unfolding op
+all_decide ops trips last cells e = (
+    (λ all j i x small run touches. held_touched (op ops j) i last cells x (omega arith) (holds_at (λ o. cell_held o last cells) ops j _ all small) touches),
+    (λ all. holds_all (λ o. cell_held o last cells) ops _ (λ j small. touched_held (op ops j) last cells (λ x. all j last x small (omega arith)))),
+)

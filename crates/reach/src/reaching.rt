@@ -2,13 +2,12 @@
 ghost use Rattle.std.specs.Prelude.{◌≡◌, ℕ, ◌<◌, ◌≤◌, Decides, MatchOption};
 ghost use Rattle.model.specs.Loop.{cell as cell_of};
 ghost use Rattle.model.specs.Pipelining.{InMemory};
-ghost use Rattle.dependence.specs.Operations.{operation_seen};
+ghost use Rattle.operations.specs.Seen.{seen};
 ghost use Rattle.dependence.specs.Loops.{loop_seen};
 ghost use Rattle.reach.specs.Cells.{cell_held};
 
 use dependence::loops::Loop;
-use dependence::operation::Operation;
-use operations::Cell;
+use operations::{Cell, Operand, Operation};
 
 // The cell of an iteration, if it is one of so many.
 pub fn find_cell(cell: Cell, iteration: usize, cells: usize) -> Option<usize>
@@ -20,13 +19,12 @@ pub fn find_cell(cell: Cell, iteration: usize, cells: usize) -> Option<usize>
 }
 
 // Whether the cell that an operation touches in an iteration, if it touches one, is one of so many.
-fn is_held(operation: Operation, iteration: usize, cells: usize) -> bool
-    ensures { result ≡ cell_held (operation_seen operation) iteration cells }
+pub fn is_held<A: Operand>(operation: &Operation<A>, iteration: usize, cells: usize) -> bool
+    ensures { result ≡ cell_held (seen A.shown operation.now) iteration cells }
 {
-    match operation {
-        Operation::Load(cell) => find_cell(cell, iteration, cells).is_some(),
-        Operation::Store(_, cell) => find_cell(cell, iteration, cells).is_some(),
-        _ => true,
+    match operation.cell() {
+        Some(cell) => find_cell(cell, iteration, cells).is_some(),
+        None => true,
     }
 }
 
@@ -34,14 +32,8 @@ fn is_held(operation: Operation, iteration: usize, cells: usize) -> bool
 pub fn cells_in_memory(l: &Loop, trips: usize, cells: usize) -> bool
     ensures { Decides result (InMemory (loop_seen l.now) trips cells) }
 {
-    if trips == 0 {
-        return true;
-    }
-    for i in 0..l.count {
-        let operation = l.operations[i];
-        if !is_held(operation, trips - 1, cells) {
-            return false;
-        }
-    }
-    true
+    trips == 0
+        || l.operations()
+            .iter()
+            .all(|operation| is_held(operation, trips - 1, cells))
 }

@@ -1,7 +1,7 @@
-use Rattle.std.proofs.Common.{◌≡◌, map, sym, ◌∙◌, rules}
+use Rattle.std.proofs.Common.{sym, ◌∙◌, rules}
 use Rattle.std.proofs.lemmas.Simd.{map-map}
 use Rattle.few.specs.Held.{held}
-use Rattle.few.proofs.Zipped.{zipped_map, zipped_same}
+use Rattle.few.proofs.Zipped.{zipped_same}
 use Rattle.model.specs.Soundness.{code_of, timing_of}
 use Rattle.texts.specs.Records.{machine_seen}
 use Rattle.dependence.specs.Operations.{operation_seen}

@@ -1,4 +1,4 @@
-use Rattle.std.proofs.Common.{◌≡◌, sym, ap, ◌∙◌, map, rules}
+use Rattle.std.proofs.Common.{sym, ◌∙◌, rules}
 use Rattle.std.proofs.lemmas.Simd.{map-map}
 use Rattle.few.specs.Held.{held}
 use Rattle.few.proofs.Zipped.{zipped_map}

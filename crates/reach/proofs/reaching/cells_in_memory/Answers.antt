@@ -1,26 +1,22 @@
-use Rattle.std.proofs.Common.{◌≡◌, ℕ, ◌-◌, sym, refl, ap, ◌∙◌, arith, below_more}
+use Rattle.std.proofs.Common.{rules, ◌≡◌, ◌-◌, sym, ap, ◌∙◌, subst, arith, Decides}
+use Rattle.std.specs.List.{list_all}
+use Rattle.std.proofs.lemmas.List.Folds.{list_all-map}
+use Rattle.std.proofs.lemmas.Iterator.Search.{all_from_yields_List}
+use Rattle.std.proofs.lemmas.Iterator.{YieldsList-from_slice}
+use borrow.Author.Tests.{tests}
+use Rattle.model.specs.Pipelining.{InMemory}
 use Rattle.dependence.specs.Operations.{operation_seen}
+use Rattle.dependence.specs.Loops.{loop_seen}
 use Rattle.reach.specs.Cells.{cell_held}
-use Rattle.reach.proofs.Reached.{op_seen, all_held, one_not_held}
+use Rattle.reach.proofs.Reached.{all_decide}
 use Rattle.reach.proofs.reaching.cells_in_memory.Goals as goal
 
-pub returns-then-not-is_held : goal.returns-then-not-is_held
-returns-then-not-is_held c =
-    let l = c.args.l.now in (
-      (λ e. let z : ◌≡◌ {A = ℕ} 0 1 = cc in absurd (omega arith)),
-      (λ all. absurd (one_not_held operation_seen l.operations l.count (omega arith) (c.args.trips - 1) c.args.cells c.args.trips (omega arith) c.loop-i.i c.loop-i-test.true
-          (ap (λ o. cell_held o (c.args.trips - 1) c.args.cells) (op_seen operation_seen l.operations l.count (omega arith) c.loop-i.i _ c.loop-i-test.true) ∙ sym c.is_held.ensures ∙ c.if-not-is_held.true) all)),
-    )
-
-pub loop-i-preserved : goal.loop-i-preserved
-loop-i-preserved c =
-    let l = c.args.l.now in
-    let held = ap (λ o. cell_held o (c.args.trips - 1) c.args.cells) (op_seen operation_seen l.operations l.count (omega arith) c.loop-i.i _ c.loop-i-test.true) in
-    below_more _ _ c.loop-i.invariant (held ∙ sym c.is_held.ensures ∙ c.if-not-is_held.false)
-
-pub returns : goal.returns
-returns c =
-    let l = c.args.l.now in (
-      (λ e. all_held operation_seen l.operations l.count (omega arith) (c.args.trips - 1) c.args.cells (λ j h. c.loop-i.invariant j (omega arith)) c.args.trips (omega arith)),
-      λ all. refl,
-    )
+pub returns-else-trips-eq0 : goal.returns-else-trips-eq0
+returns-else-trips-eq0 c =
+    let ops = loop_seen c.args.l.now in
+    let last = c.args.trips - 1 in
+    let own = c.operations.result.now in
+    let said : c.all.result ≡ list_all (λ o. cell_held o last c.args.cells) ops =
+        all_from_yields_List (λ o. cell_held (operation_seen o) last c.args.cells) _ _ c.all.result c.all.ensures.ran (YieldsList-from_slice own cc) (λ x b q k. search (rules, tests))
+        ∙ sym (list_all-map (λ o. cell_held o last c.args.cells) operation_seen own) ∙ ap (list_all (λ o. cell_held o last c.args.cells)) c.operations.ensures.operations in
+    subst (λ b. Decides b (InMemory ops c.args.trips c.args.cells)) (sym said) (all_decide ops c.args.trips last c.args.cells (omega (arith, c.if-trips-eq0.false)))

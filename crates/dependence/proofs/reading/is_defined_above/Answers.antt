@@ -1,0 +1,14 @@
+use Rattle.std.proofs.Common.{◌&&◌, sym, ◌∙◌, rules}
+use Rattle.std.proofs.lemmas.Iterator.Search.{any_from_yields_List}
+use Rattle.std.proofs.lemmas.Iterator.{YieldsList-from_slice}
+use borrow.Author.Tests.{tests}
+use Rattle.std.specs.Prelude.{nat_lt}
+use Rattle.model.specs.LoopText.{same_name}
+use Rattle.statements.specs.Statements.{statement_seen}
+use Rattle.dependence.proofs.Definers.{some-map}
+use Rattle.dependence.proofs.reading.is_defined_above.Goals as goal
+
+pub returns : goal.returns
+returns c =
+    any_from_yields_List (λ s. same_name c.args.word.now (statement_seen s).defines && nat_lt (statement_seen s).line c.args.line) _ _ c.any.result c.any.ensures.ran (YieldsList-from_slice c.args.statements.now cc) (λ x b q k. search (rules, tests))
+    ∙ sym (some-map (λ s. same_name c.args.word.now s.defines && nat_lt s.line c.args.line) statement_seen c.args.statements.now)
