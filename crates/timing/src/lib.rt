@@ -1,7 +1,11 @@
-// The stage and the row of an operation, from its time.
+// Schedules, and the stage and the row of an operation from its time.
 #![tactic(auto)]
 
+mod schedule;
+
 ghost use Rattle.std.specs.Prelude.{◌≡◌, ◌/◌, ◌%◌, ◌<◌};
+
+pub use schedule::Schedule;
 
 // At interval 0, which no schedule has, there is one stage.
 pub fn stage_and_row(time: usize, interval: usize) -> (usize, usize)
