@@ -1,0 +1,6 @@
+pub mod Sums
+pub mod Marks
+pub mod Passing
+pub mod Trail
+pub mod Turned
+pub mod Told

@@ -1,10 +1,10 @@
 -- What the public functions answer.
-use Rattle.std.specs.Prelude.{ℕ, ◌*◌, ◌<◌, ◌≤◌, cond, List, length, Ok, Err, Result, ◌==◌, slice_index}
+use Rattle.std.specs.Prelude.{ℕ, ◌*◌, ◌<◌, ◌≤◌, List, filter, length, Ok, Err, Result, ◌==◌, slice_index}
+use Rattle.std.specs.List.{sum_by}
 use Rattle.model.specs.declared.Edge.{Edge}
 use Rattle.model.specs.declared.Timing.{Timing}
-use Rattle.model.specs.Loop.{total}
 use Rattle.model.specs.Walks.{Circuit, delays, distances}
-use Rattle.model.specs.Limits.{timing, hardware, GraphFits, MachineFits}
+use Rattle.model.specs.Limits.{hardware, GraphFits, MachineFits}
 use Rattle.model.specs.Minimum.{NoneAbove, Standing, IsMinimum, IsHeight, Evidence, by_class, by_circuit, IsEvidence}
 use Rattle.bounds.specs.declared.answer.Minimum.{Minimum}
 use Rattle.bounds.specs.declared.answer.NoMinimum.{NoMinimum}
@@ -15,9 +15,9 @@ use Rattle.bounds.specs.declared.height.NoHeights.{NoHeights}
 use Rattle.bounds.specs.declared.height.NoHeights.TheVariants.{Outside, Above}
 use Rattle.bounds.specs.Paths.{numbers}
 
--- The sum of BUSY over the operations of class u among the first n.
-abbrev pub class_busy : List Timing → ℕ → ℕ → ℕ
-class_busy us n u = total (λ j. cond ((timing us j).class == u) (timing us j).busy 0) n
+-- The sum of BUSY over the operations of class u.
+abbrev pub class_busy : List Timing → ℕ → ℕ
+class_busy us u = sum_by (λ t. t.busy) (filter (λ t. t.class == u) us)
 
 abbrev pub evidence : Witness → Evidence
 evidence (Class u) = by_class u

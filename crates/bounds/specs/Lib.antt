@@ -1,3 +1,5 @@
+pub mod Graphs
 pub mod Rounds
 pub mod Paths
+pub mod Passing
 pub mod Answers

@@ -2,9 +2,8 @@
 ghost use Rattle.bounds.specs.Answers.{MinimumOf};
 
 use crate::answer::{Minimum, NoMinimum, Witness};
-use crate::circuit::circuit;
-use crate::limits::{graph_fits, machine_fits};
-use crate::relax::first_settled;
+use crate::graph::{Graph, Relaxation};
+use crate::limits::machine_fits;
 use crate::resource::resource_minimum;
 use model::{Edge, Timing};
 
@@ -12,23 +11,26 @@ use model::{Edge, Timing};
 pub fn minimum(edges: &[Edge], timings: &[Timing], units: &[usize]) -> Result<Minimum, NoMinimum>
     ensures { MinimumOf edges.now timings.now units.now result }
 {
-    let count = timings.len();
-    if !graph_fits(edges, count) || !machine_fits(timings, units) {
+    let graph = Graph::new(edges, timings.len()).ok_or(NoMinimum::Outside)?;
+    if !machine_fits(timings, units) {
         return Err(NoMinimum::Outside);
     }
-    let Some(first) = first_settled(edges, count) else {
-        return Err(NoMinimum::Standing);
-    };
+    let first = graph.first_settled().ok_or(NoMinimum::Standing)?;
     let resource = resource_minimum(timings, units);
-    if first.interval <= resource.interval {
-        return Ok(Minimum {
+    match first.rising {
+        Some(rising) if first.interval > resource.interval => {
+            let before = Relaxation {
+                graph,
+                interval: first.interval - 1,
+            };
+            Ok(Minimum {
+                value: first.interval,
+                witness: Witness::Circuit(before.circuit(rising)),
+            })
+        }
+        _ => Ok(Minimum {
             value: resource.interval,
             witness: Witness::Class(resource.class),
-        });
+        }),
     }
-    let circuit = circuit(edges, first.interval - 1, count, first.rising);
-    Ok(Minimum {
-        value: first.interval,
-        witness: Witness::Circuit(circuit),
-    })
 }

@@ -1,129 +1,103 @@
 // From the rounds that do not settle to a simple circuit.
-ghost use Rattle.std.specs.Prelude.{◌≡◌, ℕ, ◌+◌, ◌-◌, ◌<◌, ◌≤◌, ◌++◌, length, slice_index, slice_range};
-ghost use Rattle.model.specs.Limits.{GraphFits};
+ghost use Rattle.std.specs.Prelude.{◌≡◌, ℕ, ◌+◌, ◌-◌, ◌<◌, ◌≤◌, length, slice_index, slice_range};
+ghost use Rattle.std.specs.List.{All};
+ghost use Rattle.few.specs.Held.{held};
 ghost use Rattle.model.specs.Relaxation.{rounds};
-ghost use Rattle.model.specs.Walks.{Within, Walk, edge};
+ghost use Rattle.model.specs.Walks.{Walk, edge};
 ghost use Rattle.model.specs.Minimum.{CircuitWitness};
-ghost use Rattle.graph_laws.specs.Trails.{Traced, BestWalk, Repeats};
+ghost use Rattle.graph_laws.specs.Trails.{BestWalk};
 ghost use Rattle.bounds.specs.Paths.{numbers};
+ghost use Rattle.bounds.specs.Rounds.{Traced};
+ghost use Rattle.bounds.specs.Passing.{RoundTrip};
 
 use crate::Path;
-use crate::relax::round;
-use model::Edge;
+use crate::graph::{Graph, Relaxation};
+use few::Few;
 
-// The marks of the first rounds.
-fn trace(edges: &[Edge], k: usize, count: usize) -> [[u16; 32]; 32]
-    requires fits { GraphFits count edges.now }
-    requires interval { k ≤ 256 }
-    ensures { Traced edges.now k count result }
-{
-    let mut held = [0; 32];
-    let mut rows = [[0; 32]; 32];
-    for r in 0..count {
-        let row = round(edges, k, &held);
-        let marks = row.marks;
-        held = row.values;
-        rows[r] = marks;
-    }
-    rows
-}
-
-// The walk from `start` whose sum is what `count` rounds found.
-fn best_walk(edges: &[Edge], k: usize, count: usize, start: usize) -> Path
-    requires fits { GraphFits count edges.now }
-    requires interval { k ≤ 256 }
-    requires inside { start < 32 }
-    ensures { BestWalk edges.now k count start (numbers result) }
-{
-    let rows = trace(edges, k, count);
-    let mut path = [0; 32];
-    let mut len: usize = 0;
-    let mut at = start;
-    let mut left = count;
-    while left > 0 {
-        left -= 1;
-        let mark = rows[left][at] as usize;
-        if mark > 0 {
-            path[len] = mark - 1;
-            len += 1;
-            at = edges[mark - 1].to;
+impl<'a> Graph<'a> {
+    // The part of a walk between the first two places at which it stands at one operation.
+    fn round_trip<'w>(&self, walk: &'w [usize], start: usize) -> &'w [usize]
+        requires inside { start < self.now.count }
+        requires long { self.now.count ≤ length walk.now }
+        requires walk { (v : ℕ) × Walk self.now.edges.now start walk.now v }
+        ensures { RoundTrip self.now.edges.now start walk.now result.now }
+    {
+        // the place at which each operation was passed
+        let mut passed: [Option<usize>; 32] = [None; 32];
+        passed[start] = Some(0);
+        for (place, number) in walk.iter().enumerate() {
+            let at = self.edges[*number].to;
+            if let Some(before) = passed[at] {
+                return &walk[before..=place];
+            }
+            passed[at] = Some(place + 1);
         }
+        // a walk of so many edges comes to some operation again
+        unreachable!()
     }
-    Path { edges: path, len }
-}
 
-// The places at which the first operation that comes again along a walk stands.
-fn repeated(edges: &[Edge], path: &Path, start: usize, count: usize) -> (usize, usize)
-    requires within { Within count edges.now }
-    requires few { count ≤ 32 }
-    requires inside { start < count }
-    requires long { count ≤ path.now.len }
-    requires walk { (v : ℕ) × Walk edges.now start (numbers path.now) v }
-    ensures { Repeats edges.now start (numbers path.now) result.0 result.1 }
-{
-    // one more than the place of each operation that was passed
-    let mut seen: [usize; 32] = [0; 32];
-    let mut at = start;
-    let mut j: usize = 0;
-    while seen[at] == 0 {
-        seen[at] = j + 1;
-        at = edges[path.edges[j]].to;
-        j += 1;
-    }
-    (seen[at] - 1, j)
-}
-
-// The place, from `low` up to `high`, of the edge that leaves the lowest operation.
-fn lowest(edges: &[Edge], path: &Path, low: usize, high: usize) -> usize
-    requires order { low < high }
-    requires inside { high ≤ 32 }
-    requires known { (t : ℕ) → t < high → slice_index path.now.edges t < length edges.now }
-    ensures from { low ≤ result }
-    ensures below { result < high }
-    ensures least { (t : ℕ) → low ≤ t → t < high → (edge edges.now (slice_index path.now.edges result)).from ≤ (edge edges.now (slice_index path.now.edges t)).from }
-{
-    let mut best = low;
-    for t in low..high {
-        let here = edges[path.edges[t]].from;
-        let least = edges[path.edges[best]].from;
-        if here < least {
-            best = t;
+    // The place of the edge that leaves the lowest operation.
+    fn lowest(&self, round_trip: &[usize]) -> usize
+        requires some { 0 < length round_trip.now }
+        requires known { All (λ x. x < length self.now.edges.now) round_trip.now }
+        ensures inside { result < length round_trip.now }
+        ensures least { (t : ℕ) → t < length round_trip.now →
+            (edge self.now.edges.now (slice_index round_trip.now result)).from ≤ (edge self.now.edges.now (slice_index round_trip.now t)).from }
+    {
+        let mut best = 0;
+        for (place, number) in round_trip.iter().enumerate() {
+            if self.edges[*number].from < self.edges[round_trip[best]].from {
+                best = place;
+            }
         }
-    }
-    best
-}
-
-// Puts the edges at the places from `low` up to `high` of one path behind those of another.
-fn extend(to: &mut Path, other: &Path, low: usize, high: usize)
-    requires order { low ≤ high }
-    requires inside { high ≤ 32 }
-    requires room { to.old.len + (high - low) ≤ 32 }
-    ensures len { to.new.len ≡ to.old.len + (high - low) }
-    ensures edges { numbers to.new ≡ numbers to.old ++ slice_range other.now.edges low high }
-{
-    for t in low..high {
-        let len = to.len;
-        to.edges[len] = other.edges[t];
-        to.len = len + 1;
+        best
     }
 }
 
-// A simple circuit that is above k and begins with its lowest operation, from an operation that the last round raised.
-pub(crate) fn circuit(edges: &[Edge], k: usize, count: usize, rising: usize) -> Path
-    requires fits { GraphFits count edges.now }
-    requires interval { k ≤ 256 }
-    requires inside { rising < 32 }
-    requires rose { rounds k edges.now (count - 1) rising < rounds k edges.now count rising }
-    ensures { CircuitWitness edges.now (k + 1) (numbers result) }
-{
-    let path = best_walk(edges, k, count, rising);
-    let (i, j) = repeated(edges, &path, rising, count);
-    let low = lowest(edges, &path, i, j);
-    let mut turned = Path {
-        edges: [0; 32],
-        len: 0,
-    };
-    extend(&mut turned, &path, low, j);
-    extend(&mut turned, &path, i, low);
-    turned
+impl<'a> Relaxation<'a> {
+    // The marks of the first rounds, as many as operations.
+    fn trace(&self) -> Few<[Option<usize>; 32], 32>
+        ensures { Traced self.now.graph.edges.now self.now.interval self.now.graph.count (held result) }
+    {
+        let mut old = [0; 32];
+        let mut rows = Few::new([None; 32]);
+        for _ in 0..self.graph.count {
+            let row = self.round(&old);
+            rows.push(row.marks).unwrap();
+            old = row.values;
+        }
+        rows
+    }
+
+    // The walk from `start` whose sum is what the rounds found.
+    fn best_walk(&self, start: usize) -> Path
+        requires { start < 32 }
+        ensures { BestWalk self.now.graph.edges.now self.now.interval self.now.graph.count start (numbers result) }
+    {
+        let mut path = Path::new();
+        let mut at = start;
+        for marks in self.trace().as_slice().iter().rev() {
+            if let Some(number) = marks[at] {
+                path.push(number);
+                at = self.graph.edges[number].to;
+            }
+        }
+        path
+    }
+
+    // A simple circuit that is above the interval and begins with its lowest operation, from an operation that the last round raised.
+    pub(crate) fn circuit(&self, rising: usize) -> Path
+        requires inside { rising < 32 }
+        requires rose { rounds self.now.interval self.now.graph.edges.now (self.now.graph.count - 1) rising <
+            rounds self.now.interval self.now.graph.edges.now self.now.graph.count rising }
+        ensures { CircuitWitness self.now.graph.edges.now (self.now.interval + 1) (numbers result) }
+    {
+        let walk = self.best_walk(rising);
+        let round_trip = self.graph.round_trip(walk.numbers(), rising);
+        let (before, from_lowest) = round_trip.split_at(self.graph.lowest(round_trip));
+        let mut turned = Path::new();
+        turned.extend(from_lowest);
+        turned.extend(before);
+        turned
+    }
 }

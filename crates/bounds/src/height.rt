@@ -1,8 +1,7 @@
 // Heights at an interval.
 ghost use Rattle.bounds.specs.Answers.{HeightsOf};
 
-use crate::limits::graph_fits;
-use crate::relax::{Settled, settle};
+use crate::graph::{Graph, Relaxation};
 use model::Edge;
 
 // Why there are no heights.
@@ -18,11 +17,10 @@ pub enum NoHeights {
 pub fn heights(edges: &[Edge], count: usize, interval: usize) -> Result<[usize; 32], NoHeights>
     ensures { HeightsOf edges.now count interval result }
 {
-    if !graph_fits(edges, count) || interval > 256 {
+    let graph = Graph::new(edges, count).ok_or(NoHeights::Outside)?;
+    if interval > 256 {
         return Err(NoHeights::Outside);
     }
-    match settle(edges, interval, count) {
-        Settled::Heights(heights) => Ok(heights),
-        Settled::Rising(_) => Err(NoHeights::Above),
-    }
+    let relaxation = Relaxation { graph, interval };
+    relaxation.settle().map_err(|_| NoHeights::Above)
 }

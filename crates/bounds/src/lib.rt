@@ -4,11 +4,13 @@
 mod answer;
 mod bound;
 mod circuit;
+mod graph;
 mod height;
 mod limits;
 mod path;
 mod relax;
 mod resource;
+mod row;
 
 pub use answer::{Minimum, NoMinimum, Witness};
 pub use bound::minimum;

@@ -1,8 +1,10 @@
 // Whether what is handed in is within the limits.
 ghost use Rattle.std.specs.Prelude.{◌≤◌, length, Decides};
 ghost use Rattle.std.specs.List.{AllByRecursion};
-ghost use Rattle.model.specs.Limits.{EdgeFits, GraphFits, TimingFits, MachineFits};
+ghost use Rattle.model.specs.Limits.{EdgeFits, TimingFits, MachineFits};
+ghost use Rattle.bounds.specs.Graphs.{GraphOf};
 
+use crate::graph::Graph;
 use model::{Edge, Timing};
 
 fn edge_fits(e: &Edge, count: usize) -> bool
@@ -11,47 +13,41 @@ fn edge_fits(e: &Edge, count: usize) -> bool
     e.from < count && e.to < count && e.delay <= 8 && e.distance <= 7
 }
 
-pub(crate) fn graph_fits(edges: &[Edge], count: usize) -> bool
-    ensures { Decides result (GraphFits count edges.now) }
+fn edges_fit(edges: &[Edge], count: usize) -> bool
+    ensures { Decides result (AllByRecursion (EdgeFits count) edges.now) }
 {
-    if count == 0 || count > 32 || edges.len() > 65535 {
-        return false;
-    }
-    for e in edges {
-        if !edge_fits(e, count) {
-            return false;
+    edges.iter().all(|e| edge_fits(e, count))
+}
+
+impl<'a> Graph<'a> {
+    // The graph, if it is within the limits.
+    pub(crate) fn new(edges: &'a [Edge], count: usize) -> Option<Graph<'a>>
+        ensures { GraphOf edges.now count result }
+    {
+        if (1..=32).contains(&count) && edges.len() <= 65535 && edges_fit(edges, count) {
+            Some(Graph { edges, count })
+        } else {
+            None
         }
     }
-    true
 }
 
 fn timing_fits(timing: &Timing, classes: usize) -> bool
     ensures { Decides result (TimingFits classes timing.now) }
 {
-    timing.class < classes && timing.busy >= 1 && timing.busy <= 8
+    timing.class < classes && (1..=8).contains(&timing.busy)
 }
 
 fn timings_fit(timings: &[Timing], classes: usize) -> bool
     ensures { Decides result (AllByRecursion (TimingFits classes) timings.now) }
 {
-    for timing in timings {
-        if !timing_fits(timing, classes) {
-            return false;
-        }
-    }
-    true
+    timings.iter().all(|timing| timing_fits(timing, classes))
 }
 
 fn units_fit(units: &[usize]) -> bool
     ensures { Decides result (AllByRecursion (λ c. (1 ≤ c) × (c ≤ 8)) units.now) }
 {
-    for count in units {
-        let count = *count;
-        if count < 1 || count > 8 {
-            return false;
-        }
-    }
-    true
+    units.iter().all(|count| (1..=8).contains(count))
 }
 
 pub fn machine_fits(timings: &[Timing], units: &[usize]) -> bool

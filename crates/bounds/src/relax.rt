@@ -1,116 +1,91 @@
 // Relaxation: rounds over the edges, until one changes nothing.
-ghost use Rattle.std.specs.Prelude.{◌≡◌, ℕ, ◌<◌, ◌≤◌, length};
-ghost use Rattle.std.specs.List.{AllByRecursion};
-ghost use Rattle.model.specs.Limits.{EdgeFits, GraphFits};
+ghost use Rattle.std.specs.Prelude.{◌≡◌, is_some, position};
+ghost use Rattle.model.specs.Limits.{EdgeFits};
 ghost use Rattle.model.specs.Relaxation.{offer};
 ghost use Rattle.graph_laws.specs.Trails.{value};
-ghost use Rattle.bounds.specs.Rounds.{Low, RoundOf, Settles, Raised, FirstOf};
+ghost use Rattle.bounds.specs.Rounds.{Low, RoundOf, Settles, FirstOf};
 
+use crate::graph::{Graph, Relaxation};
+use crate::row::Row;
 use model::Edge;
-
-// One round's values, and for each operation the number + 1 of the edge that raised it, or 0.
-#[derive(Clone, Copy)]
-pub struct Row {
-    pub values: [usize; 32],
-    pub marks: [u16; 32],
-}
-
-#[derive(Clone, Copy)]
-pub enum Settled {
-    // no circuit is above; the heights
-    Heights([usize; 32]),
-    // the last round still raised this operation
-    Rising(usize),
-}
 
 // The least interval with no circuit above it, and an operation that the last round at the interval before raised.
 #[derive(Clone, Copy)]
 pub struct FirstSettled {
     pub interval: usize,
-    pub rising: usize,
-}
-
-// What an edge offers to the operation that it leaves.
-fn offered(e: &Edge, k: usize, old: &[usize; 32]) -> usize
-    requires fits { EdgeFits 32 e.now }
-    requires interval { k ≤ 256 }
-    requires low { Low old.now }
-    ensures { result ≡ offer k (value old.now) e.now }
-{
-    (e.delay + old[e.to]).saturating_sub(e.distance * k)
-}
-
-// One round: each operation takes the best that its edges offer, by the old values.
-pub(crate) fn round(edges: &[Edge], k: usize, old: &[usize; 32]) -> Row
-    requires fit { AllByRecursion (EdgeFits 32) edges.now }
-    requires short { length edges.now ≤ 65535 }
-    requires interval { k ≤ 256 }
-    requires low { Low old.now }
-    ensures { RoundOf edges.now k old.now result }
-{
-    let mut values = *old;
-    let mut marks = [0; 32];
-    for (x, e) in edges.iter().enumerate() {
-        let better = offered(e, k, old);
-        if values[e.from] < better {
-            values[e.from] = better;
-            marks[e.from] = (x + 1) as u16;
-        }
-    }
-    Row { values, marks }
+    pub rising: Option<usize>,
 }
 
 // The first operation that a round raised.
-fn first_raised(marks: &[u16; 32]) -> Option<usize>
-    ensures { Raised marks.now result }
+fn first_raised(row: &Row) -> Option<usize>
+    ensures { result ≡ position is_some row.now.marks }
 {
-    for u in 0..32 {
-        if marks[u] != 0 {
-            return Some(u);
-        }
-    }
-    None
+    row.marks.iter().position(|mark| mark.is_some())
 }
 
-// Rounds from 0 until one changes nothing, at most one for each operation.
-pub(crate) fn settle(edges: &[Edge], k: usize, count: usize) -> Settled
-    requires fits { GraphFits count edges.now }
-    requires interval { k ≤ 256 }
-    ensures { Settles edges.now k count result }
-{
-    let mut held = [0; 32];
-    let mut rising = 0;
-    for _r in 0..count {
-        let row = round(edges, k, &held);
-        match first_raised(&row.marks) {
-            None => return Settled::Heights(held),
-            Some(u) => {
-                rising = u;
+impl<'a> Relaxation<'a> {
+    // What an edge offers to the operation that it leaves.
+    fn offered(&self, e: &Edge, old: &[usize; 32]) -> usize
+        requires fits { EdgeFits self.now.graph.count e.now }
+        requires low { Low old.now }
+        ensures { result ≡ offer self.now.interval (value old.now) e.now }
+    {
+        (e.delay + old[e.to]).saturating_sub(e.distance * self.interval)
+    }
+
+    // One round: each operation takes the best that its edges offer, by the old values.
+    pub(crate) fn round(&self, old: &[usize; 32]) -> Row
+        requires { Low old.now }
+        ensures { RoundOf self.now.graph.edges.now self.now.interval old.now result }
+    {
+        let mut values = *old;
+        let mut marks = [None; 32];
+        for (number, e) in self.graph.edges.iter().enumerate() {
+            let better = self.offered(e, old);
+            if values[e.from] < better {
+                values[e.from] = better;
+                marks[e.from] = Some(number);
             }
         }
-        held = row.values;
+        Row { values, marks }
     }
-    Settled::Rising(rising)
+
+    // The heights, where no circuit is above the interval; or an operation that the last round still raised.
+    // There are at most as many rounds as operations, and none after one that changes nothing.
+    pub(crate) fn settle(&self) -> Result<[usize; 32], usize>
+        ensures { Settles self.now.graph.edges.now self.now.interval self.now.graph.count result }
+    {
+        let mut held = [0; 32];
+        for _ in 1..self.graph.count {
+            let row = self.round(&held);
+            if first_raised(&row).is_none() {
+                return Ok(held);
+            }
+            held = row.values;
+        }
+        match first_raised(&self.round(&held)) {
+            None => Ok(held),
+            Some(rising) => Err(rising),
+        }
+    }
 }
 
-// The first interval at which the rounds settle. A simple circuit with a distance has delays of at most 256.
-pub(crate) fn first_settled(edges: &[Edge], count: usize) -> Option<FirstSettled>
-    requires { GraphFits count edges.now }
-    ensures { FirstOf edges.now count result }
-{
-    let mut rising = 0;
-    for k in 1..257 {
-        match settle(edges, k, count) {
-            Settled::Heights(_) => {
-                return Some(FirstSettled {
-                    interval: k,
-                    rising,
-                });
-            }
-            Settled::Rising(u) => {
-                rising = u;
+impl<'a> Graph<'a> {
+    // The first interval at which the rounds settle. A simple circuit with a distance has delays of at most 256.
+    pub(crate) fn first_settled(&self) -> Option<FirstSettled>
+        ensures { FirstOf self.now.edges.now self.now.count result }
+    {
+        let mut rising = None;
+        for interval in 1..=256 {
+            let relaxation = Relaxation {
+                graph: *self,
+                interval,
+            };
+            match relaxation.settle() {
+                Ok(_) => return Some(FirstSettled { interval, rising }),
+                Err(raised) => rising = Some(raised),
             }
         }
+        None
     }
-    None
 }

@@ -1,7 +1,6 @@
 // The resource minimum.
-ghost use Rattle.std.specs.Prelude.{◌≡◌, ◌*◌, ◌≤◌, length};
-ghost use Rattle.std.specs.List.{AllByRecursion};
-ghost use Rattle.model.specs.Limits.{hardware, TimingFits, MachineFits};
+ghost use Rattle.std.specs.Prelude.{◌≡◌, ◌<◌, ◌≤◌, ◌^◌, length};
+ghost use Rattle.model.specs.Limits.{hardware, MachineFits};
 ghost use Rattle.model.specs.Minimum.{own_minimum};
 ghost use Rattle.graph_laws.specs.Trails.{Leads};
 ghost use Rattle.bounds.specs.Answers.{class_busy};
@@ -17,18 +16,14 @@ pub struct Resource {
 
 // The sum of BUSY over the operations of a class.
 fn busy_sum(timings: &[Timing], class: usize) -> usize
-    requires few { length timings.now ≤ 32 }
-    requires short { AllByRecursion (λ u. u.busy ≤ 8) timings.now }
-    ensures exact { result ≡ class_busy timings.now (length timings.now) class }
-    ensures limit { result ≤ 256 }
+    requires { class_busy timings.now class < 2 ^ 64 }
+    ensures { result ≡ class_busy timings.now class }
 {
-    let mut sum = 0;
-    for timing in timings {
-        if timing.class == class {
-            sum += timing.busy;
-        }
-    }
-    sum
+    timings
+        .iter()
+        .filter(|timing| timing.class == class)
+        .map(|timing| timing.busy)
+        .sum()
 }
 
 // The resource minimum, and the lowest class that has it.
@@ -37,14 +32,15 @@ pub(crate) fn resource_minimum(timings: &[Timing], units: &[usize]) -> Resource
     requires fits { MachineFits timings.now units.now }
     ensures { Leads (own_minimum (hardware timings.now units.now) (length timings.now)) (length units.now) result.interval result.class }
 {
-    let mut interval = 0;
-    let mut class = 0;
-    for u in 0..units.len() {
-        let own = (busy_sum(timings, u) + (units[u] - 1)) / units[u];
-        if interval < own {
-            interval = own;
-            class = u;
+    let mut best = Resource {
+        interval: 0,
+        class: 0,
+    };
+    for (class, count) in units.iter().enumerate() {
+        let interval = busy_sum(timings, class).div_ceil(*count);
+        if best.interval < interval {
+            best = Resource { interval, class };
         }
     }
-    Resource { interval, class }
+    best
 }

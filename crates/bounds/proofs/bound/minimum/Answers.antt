@@ -1,46 +1,30 @@
-use Rattle.std.proofs.Common.{◌≡◌, ◌+◌, ◌-◌, ◌<◌, length, subst, arith}
-use Rattle.model.specs.Limits.{GraphFits, MachineFits}
-use Rattle.model.specs.Minimum.{CircuitWitness}
-use Rattle.graph_laws.proofs.Top.{some_resource, class_minimum, circuit_minimum, class_named, resource_below}
-use Rattle.bounds.specs.Paths.{numbers}
+use Rattle.std.proofs.Common.{Some, length, rules}
+use Rattle.model.specs.Limits.{MachineFits}
+use Rattle.bounds.specs.Graphs.{GraphOf}
+use Rattle.bounds.specs.Rounds.{FirstOf}
+use Rattle.bounds.proofs.Told.{class_told, class_told_at_one, circuit_told}
 use Rattle.bounds.proofs.bound.minimum.Goals as goal
 
-pub returns-then-first-resource : goal.returns-then-first-resource
-returns-then-first-resource c =
-    let us = c.args.timings.now in
-    let units = c.args.units.now in
-    let graph : GraphFits (length us) c.args.edges.now = c.graph_fits.ensures.0 c.if-not-graph_fits.false in
-    let machine : MachineFits us units = c.machine_fits.ensures.0 c.if-not-machine_fits.false in
-    let r = c.resource_minimum-resource in (
-      (graph, machine),
-      class_minimum us units machine r.result.interval r.result.class r.ensures c.args.edges.now c.in-Some.first.interval c.in-Some.ensures.0 c.if-first-resource.true,
-      class_named us units machine r.result.interval r.result.class r.ensures graph.some,
-    )
+pub returns-in-Some : goal.returns-in-Some
+returns-in-Some c =
+    let made : GraphOf c.args.edges.now (length c.args.timings.now) (Some c.in_ok-graph.graph) = search rules in
+    let machine : MachineFits c.args.timings.now c.args.units.now = search rules in
+    let first : FirstOf c.in_ok-graph.graph.edges.now c.in_ok-graph.graph.count (Some c.in_ok-first.first) = search rules in
+    circuit_told c.args.edges.now c.args.timings.now c.args.units.now c.in_ok-graph.graph made machine c.resource_minimum-resource.result c.resource_minimum-resource.ensures
+    c.in_ok-first.first first c.circuit.result c.if-first-resource.true c.circuit.ensures
 
-pub circuit-circuit-requires : goal.circuit-circuit-requires
-circuit-circuit-requires c =
-    let us = c.args.timings.now in
-    let units = c.args.units.now in
-    let graph : GraphFits (length us) c.args.edges.now = c.graph_fits.ensures.0 c.if-not-graph_fits.false in
-    let machine : MachineFits us units = c.machine_fits.ensures.0 c.if-not-machine_fits.false in
-    let r = c.resource_minimum-resource in
-    let some : 0 < r.result.interval = some_resource us units machine r.result.interval r.result.class r.ensures graph.some in
-    let rose = c.in-Some.ensures.2 (omega (arith, c.if-first-resource.false)) in
-    record { fits = graph; interval = omega (arith, c.in-Some.ensures.1); inside = rose.0; rose = rose.1 }
+pub returns-in_default : goal.returns-in_default
+returns-in_default c =
+    let made : GraphOf c.args.edges.now (length c.args.timings.now) (Some c.in_ok-graph.graph) = search rules in
+    let machine : MachineFits c.args.timings.now c.args.units.now = search rules in
+    let first : FirstOf c.in_ok-graph.graph.edges.now c.in_ok-graph.graph.count (Some c.in_ok-first.first) = search rules in
+    class_told c.args.edges.now c.args.timings.now c.args.units.now c.in_ok-graph.graph made machine c.resource_minimum-resource.result c.resource_minimum-resource.ensures
+    c.in_ok-first.first first c.if-first-resource.false
 
-pub returns : goal.returns
-returns c =
-    let us = c.args.timings.now in
-    let units = c.args.units.now in
-    let graph : GraphFits (length us) c.args.edges.now = c.graph_fits.ensures.0 c.if-not-graph_fits.false in
-    let machine : MachineFits us units = c.machine_fits.ensures.0 c.if-not-machine_fits.false in
-    let r = c.resource_minimum-resource in
-    let k = c.in-Some.first.interval in
-    let back : (k - 1) + 1 ≡ k = omega (arith, c.if-first-resource.false) in (
-      (graph, machine),
-      circuit_minimum us units machine r.result.interval r.result.class r.ensures c.args.edges.now k c.in-Some.ensures.0 c.if-first-resource.false,
-      (
-        resource_below us units machine r.result.interval r.result.class r.ensures k c.if-first-resource.false,
-        subst (λ x. CircuitWitness c.args.edges.now x (numbers c.circuit-circuit.result)) back c.circuit-circuit.ensures,
-      ),
-    )
+pub returns-in_default-2 : goal.returns-in_default-2
+returns-in_default-2 c =
+    let made : GraphOf c.args.edges.now (length c.args.timings.now) (Some c.in_ok-graph.graph) = search rules in
+    let machine : MachineFits c.args.timings.now c.args.units.now = search rules in
+    let first : FirstOf c.in_ok-graph.graph.edges.now c.in_ok-graph.graph.count (Some c.in_ok-first.first) = search rules in
+    class_told_at_one c.args.edges.now c.args.timings.now c.args.units.now c.in_ok-graph.graph made machine c.resource_minimum-resource.result c.resource_minimum-resource.ensures
+    c.in_ok-first.first first (search rules)

@@ -1,35 +1,25 @@
-use Rattle.std.proofs.Common.{◌≡◌, ℕ, ◌+◌, ◌-◌, ◌/◌, ◌≤◌, length, get_or, sym, ap, subst₂, arith}
-use Rattle.std.proofs.ByRecursion.{All-weaker}
-use Rattle.model.specs.Limits.{hardware, TimingFits}
+use Rattle.std.proofs.Common.{◌≡◌, ℕ, ◌+◌, length, refl, sym, ◌∙◌, subst, ap₂, arith}
+use Rattle.std.specs.Int.{div_ceil}
+use Rattle.model.specs.Limits.{hardware}
 use Rattle.model.specs.Minimum.{own_minimum}
 use Rattle.graph_laws.specs.Trails.{Leads}
 use Rattle.graph_laws.proofs.Sums.{takes_lead, keeps_lead}
-use Rattle.graph_laws.proofs.Top.{units_at}
+use Rattle.bounds.specs.declared.resource.Resource.{Resource}
+use Rattle.bounds.proofs.Sums.{few_uses, own_is}
 use Rattle.bounds.proofs.resource.resource_minimum.Goals as goal
-use Rattle.bounds.proofs.resource.resource_minimum.Goals.{then-interval-own, else-interval-own}
+use Rattle.bounds.proofs.resource.resource_minimum.Goals.{then-best-interval, else-best-interval}
 
 pub busy_sum-requires : goal.busy_sum-requires
-busy_sum-requires c = record {
-  few = c.requires.few;
-  short = All-weaker (TimingFits (length c.args.units.now)) (λ u. u.busy ≤ 8) (λ u f. f.short) c.args.timings.now c.requires.fits.each;
-}
+busy_sum-requires c = omega (arith, few_uses c.args.timings.now c.args.units.now c.loop-class.class c.requires.few c.requires.fits)
 
-pub overflow_sub-own : goal.overflow_sub-own
-overflow_sub-own c = omega (arith, units_at c.args.timings.now c.args.units.now c.requires.fits c.loop-u.u c.loop-u-test.true)
-
-pub overflow_add-own : goal.overflow_add-own
-overflow_add-own c = omega (arith, c.busy_sum.ensures.limit, units_at c.args.timings.now c.args.units.now c.requires.fits c.loop-u.u c.loop-u-test.true)
-
-pub nonzero_div-own : goal.nonzero_div-own
-nonzero_div-own c = omega (arith, units_at c.args.timings.now c.args.units.now c.requires.fits c.loop-u.u c.loop-u-test.true)
-
-pub loop-u-preserved : goal.loop-u-preserved
-loop-u-preserved c =
-    let inv = c.loop-u.invariant in
+pub loop-class-preserved : goal.loop-class-preserved
+loop-class-preserved c =
     let f : ℕ → ℕ = own_minimum (hardware c.args.timings.now c.args.units.now) (length c.args.timings.now) in
-    let count : ℕ = get_or c.args.units.now c.loop-u.u 0 in
-    let is : (c.busy_sum.result + (count - 1)) / count ≡ f c.loop-u.u = ap (λ x. (x + (count - 1)) / count) c.busy_sum.ensures.exact in
-    elim c.if-interval-own.branch [
-      | then-interval-own w ↦ subst₂ (λ x y. Leads f (c.loop-u.u + 1) x y) (sym w.interval-is) (sym w.class-is) (takes_lead f c.loop-u.u c.loop-u.interval c.loop-u.class _ inv is w.if-interval-own.true)
-      | else-interval-own w ↦ subst₂ (λ x y. Leads f (c.loop-u.u + 1) x y) (sym w.interval-is) (sym w.class-is) (keeps_lead f c.loop-u.u c.loop-u.interval c.loop-u.class _ inv is w.if-interval-own.false)
+    let old : Resource = c.loop-class.best in
+    let next : Resource → Type 0 = λ b. Leads f (c.loop-class.class + 1) b.interval b.class in
+    let is : c.div_ceil-interval.result ≡ f c.loop-class.class = c.div_ceil-interval.ensures ∙
+    ap₂ div_ceil c.busy_sum.ensures refl ∙ own_is c.args.timings.now c.args.units.now c.loop-class.class c.requires.fits c.loop-class-test.true in
+    elim c.if-best-interval.branch [
+      | then-best-interval w ↦ subst next (sym w.best-is) (takes_lead f c.loop-class.class old.interval old.class _ c.loop-class.invariant is w.if-best-interval.true)
+      | else-best-interval w ↦ subst next (sym w.best-is) (keeps_lead f c.loop-class.class old.interval old.class _ c.loop-class.invariant is w.if-best-interval.false)
     ]
