@@ -1,13 +1,13 @@
 -- A scheme with 256 registers that always gives a variable eight, one for each of eight turns.
-use Rattle.std.specs.Prelude.{ℕ, ◌+◌, ◌-◌, ◌*◌, ◌%◌, Bool, true, cond, ◌&&◌, List, [], ◌∷◌, length, ◌==◌, nat_le, nat_lt}
+use Rattle.std.specs.Prelude.{ℕ, ◌+◌, ◌-◌, ◌*◌, ◌%◌, Bool, cond, ◌&&◌, List, length, ◌==◌, nat_le, nat_lt}
+use Rattle.std.specs.List.{list_all}
 use Rattle.model.specs.declared.Life.{Life}
 use Rattle.model.specs.Lives.{Table}
 use Rattle.model.specs.Schemes.{Meaning, less}
 
 -- No life is longer than eight intervals.
 abbrev pub short : ℕ → List Life → Bool
-short k [] = true
-short k (l ∷ ls) = nat_lt (l.end - l.start) (8 * k) && short k ls
+short k ls = list_all (λ l. nat_lt (l.end - l.start) (8 * k)) ls
 
 abbrev pub lanes_need : Table → ℕ
 lanes_need t = cond (short t.interval t.lives) (8 * length t.lives) 257

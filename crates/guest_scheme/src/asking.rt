@@ -46,7 +46,6 @@ pub fn still_apart<S: Scheme>(
     let None = scheme.fit(offered) else {
         return None;
     };
-    let first = register(scheme, turns, a.variable, a.iteration, 0);
-    let second = register(scheme, turns, b.variable, b.iteration, 0);
-    Some(first != second)
+    let place = |at: Instance| register(scheme, turns, at.variable, at.iteration, 0);
+    Some(place(a) != place(b))
 }

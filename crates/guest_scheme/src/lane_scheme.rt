@@ -7,19 +7,20 @@ ghost use Rattle.std.proofs.Common.{refl, rules};
 
 use crate::lanes::Lanes;
 use registers::lives::Lives;
-use registers::scheme::Scheme;
+use registers::scheme::{BACK, Scheme, TURNS};
+
+// The registers of the file.
+const FILE: usize = 256;
 
 // Whether no life is longer than eight intervals.
 fn all_short(lives: &Lives) -> bool
     ensures { result ≡ short (table lives.now).interval (table lives.now).lives }
 {
     let interval = lives.interval();
-    for life in lives.as_slice() {
-        if life.end - life.start >= 8 * interval {
-            return false;
-        }
-    }
-    true
+    lives
+        .as_slice()
+        .iter()
+        .all(|life| life.end - life.start < 8 * interval)
 }
 
 impl Lanes {
@@ -40,27 +41,30 @@ impl Scheme for Lanes {
     ghost lawful = { λ s. Prim.search rules };
 
     fn file(&self) -> usize {
-        256
+        FILE
     }
 
     fn fit(&mut self, lives: &Lives) -> Option<usize> {
         if !all_short(lives) {
             return None;
         }
-        let variables = lives.as_slice().len();
-        self.variables = variables;
-        Some(if variables == 0 { 1 } else { 8 })
+        self.variables = lives.as_slice().len();
+        Some(if lives.as_slice().is_empty() {
+            1
+        } else {
+            TURNS
+        })
     }
 
     fn name(&self, variable: usize, copy: usize, back: usize) -> usize {
-        if variable < self.variables && copy < 8 && back <= 14 {
-            8 * variable + (copy + 7 * back) % 8
+        if variable < self.variables && copy < TURNS && back <= BACK {
+            TURNS * variable + (copy + (TURNS - 1) * back) % TURNS
         } else {
             0
         }
     }
 
     fn resolve(&self, name: usize, pass: usize) -> usize {
-        if name < 256 { name } else { 0 }
+        if name < FILE { name } else { 0 }
     }
 }

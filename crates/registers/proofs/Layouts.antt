@@ -1,70 +1,47 @@
 -- The rotating scheme's bases, one variable after the other.
-use Rattle.std.proofs.Common.{◌≡◌, ℕ, ◌+◌, ◌-◌, ◌*◌, ◌/◌, ◌%◌, ◌<◌, ◌≤◌, ◌≢◌, List, length, get_or, take, set, sym, ap, ◌∙◌, subst, div-lt_iff_lt-mul, div-le_self, arith, length-set, take_all, get_or-set_other, get_or-set_same, below_more}
+use Rattle.std.proofs.Common.{◌≡◌, ℕ, ◌+◌, ◌-◌, ◌*◌, ◌/◌, ◌%◌, ◌^◌, ◌<◌, ◌≤◌, List, [], ◌∷◌, ◌++◌, length, take, get_or, sum_by, refl, sym, ap, ◌∙◌, div-le_self, div-lt_iff_lt-mul, length-append, below_more, arith}
+use Rattle.std.specs.List.{All}
+use Rattle.std.proofs.lemmas.List.{get_or_append_left, get_or_push}
+use Rattle.std.proofs.lemmas.List.Elements.{All-weaker}
+use Rattle.std.proofs.lemmas.List.Sums.{sum_by-cons, sum_by-le}
 use Rattle.model.specs.declared.Life.{Life}
-use Rattle.model.specs.Lives.{Table, life, Limits}
-use Rattle.model.specs.Schemes.{widths, rotating_need, rotating_base, rotating_with, rotating}
-use Rattle.register_laws.proofs.Rotating.{div_le_div_right, widths_more, rotating_same}
-use Rattle.registers.specs.declared.lives.Lives.{Lives}
-use Rattle.registers.specs.Views.{table}
-use Rattle.registers.proofs.Tables.{limits as table_limits}
+use Rattle.model.specs.Lives.{no_life, LifeWithin}
+use Rattle.model.specs.Schemes.{width, widths, rotating_base}
+use Rattle.register_laws.proofs.Rotating.{widths_more}
+
+pub width_small : (k : ℕ) (l : Life) → LifeWithin k l → width k l ≤ 4096
+width_small k l h = let d = div-le_self l.end k in omega arith
+
+pub widths_sum : (k : ℕ) (ls : List Life) → widths k ls ≡ sum_by (width k) ls
+widths_sum k [] = refl
+widths_sum k (l ∷ ls) = ap (λ n. width k l + n) (widths_sum k ls) ∙ sym (sum_by-cons (width k) l ls)
+
+pub widths_fit : (k : ℕ) (ls : List Life) → All (LifeWithin k) ls → length ls ≤ 32 → sum_by (width k) ls < 2 ^ 64
+widths_fit k ls each few =
+    let small = All-weaker (LifeWithin k) (λ l. width k l ≤ 4096) (width_small k) ls each in
+    omega (arith, sum_by-le (width k) 4096 ls small)
 
 -- how far the layout has come
-abbrev pub Laid : Table → ℕ → ℕ → List ℕ → Type 0
-Laid t v need bases =
-    (need ≡ widths t.interval (take v t.lives)) ×
-    (need ≤ 4096 * v) ×
-    (length bases ≡ 32) ×
-    ((w : ℕ) → w < v → get_or bases w 0 ≡ rotating_base t w)
+pub record Laid (k : ℕ) (ls : List Life) (v below : ℕ) (bases : List ℕ) : Type 0 where
+  pub sum : below ≡ widths k (take v ls)
+  pub small : below ≤ 4096 * v
+  pub count : length bases ≡ v
+  pub each : (w : ℕ) → w < v → get_or bases w 0 ≡ rotating_base (record { interval = k; lives = ls }) w
 
-module _ (t : Table) (limits : Limits t) (v : ℕ) (lt : v < length t.lives) where
-  pub stages : ((life t v).start / t.interval ≤ (life t v).end / t.interval) × ((life t v).start / t.interval < 8) × ((life t v).end / t.interval ≤ 4095) × (v < 32)
-  stages =
-      let w = limits.each v lt in
-      let some : 0 < t.interval = omega (arith, limits.some) in
-      let d = div-le_self (life t v).end t.interval in
-      (div_le_div_right t.interval some w.1, (div-lt_iff_lt-mul some).1 w.0, omega arith, omega (arith, limits.few))
-
-  -- one variable more
-  pub laid_more : (need : ℕ) (bases : List ℕ) → Laid t v need bases →
-      Laid t (v + 1) (need + ((life t v).end / t.interval - (life t v).start / t.interval + 1)) (set bases v ((need + 64 - (life t v).start / t.interval) % 64))
-  laid_more need bases f =
-      let more = widths_more t.interval t.lives v lt in
-      let st = stages in
-      let long : v < length bases = omega (arith, f.2) in
-      let back : (need + 64 - (life t v).start / t.interval) % 64 ≡ (need + 63 * ((life t v).start / t.interval)) % 64 = omega arith in
-      let here : (need + 63 * ((life t v).start / t.interval)) % 64 ≡ rotating_base t v = ap (λ n. (n + 63 * ((life t v).start / t.interval)) % 64) f.0 in (
-        omega (arith, f.0),
-        omega (arith, f.1),
-        length-set bases v _ ∙ f.2,
-        below_more _ _ (λ k h. let ne : k ≢ v = omega arith in rw get_or-set_other (f.3 k h)) (rw get_or-set_same (back ∙ here)),
-      )
-
--- all variables
-pub laid_all : (t : Table) (v need : ℕ) (bases : List ℕ) → Laid t v need bases → length t.lives ≤ v → need ≡ rotating_need t
-laid_all t v need bases f end = f.0 ∙ ap (widths t.interval) (take_all v t.lives end)
-
--- a table as its two questions answer it
-abbrev pub seen : ℕ → List Life → Table
-seen k ls = record { interval = k; lives = ls }
-
-module _ (l : Lives) (k : ℕ) (ls : List Life) (e : k ≡ l.interval) (f : ls ≡ (table l).lives) where
-  pub asked : seen k ls ≡ table l
-  asked = λ i. record { interval = e i; lives = f i }
-
-  pub asked_limits : Limits (seen k ls)
-  asked_limits = subst Limits (sym asked) (table_limits l)
-
-  pub need_is : (v need : ℕ) (bases : List ℕ) → Laid (seen k ls) v need bases → length ls ≤ v → need ≡ rotating_need (table l)
-  need_is v need bases inv end = laid_all (seen k ls) v need bases inv end ∙ ap rotating_need asked
-
-  pub bases_are : (v need : ℕ) (bases : List ℕ) → Laid (seen k ls) v need bases → length ls ≤ v →
-      (w : ℕ) → w < length (table l).lives → get_or bases w 0 ≡ rotating_base (table l) w
-  bases_are v need bases inv end w h = let n = ap length f in inv.3 w (omega arith) ∙ ap (λ t. rotating_base t w) asked
-
--- a scheme with the bases of a table is the one that accepted it
-pub laid_meaning : (l : Lives) (ls : List Life) (bases : List ℕ) → ls ≡ (table l).lives →
-    ((w : ℕ) → w < length (table l).lives → get_or bases w 0 ≡ rotating_base (table l) w) →
-    rotating_with (length ls) (λ v. get_or bases v 0) ≡ rotating (table l)
-laid_meaning l ls bases f same =
-    ap (λ x. rotating_with (length x) (λ v. get_or bases v 0)) f ∙
-    rotating_same (length (table l).lives) (λ v. get_or bases v 0) (rotating_base (table l)) same
+-- one variable more
+pub laid_more : (k : ℕ) (ls : List Life) (v below : ℕ) (bases : List ℕ) → 0 < k → All (LifeWithin k) ls → v < length ls → Laid k ls v below bases →
+    Laid k ls (v + 1) (below + width k (get_or ls v no_life)) (bases ++ (below + 64 - (get_or ls v no_life).start / k) % 64 ∷ [])
+laid_more k ls v below bases some each lt laid =
+    let l = get_or ls v no_life in
+    let within : LifeWithin k l = each v no_life lt in
+    let narrow = width_small k l within in
+    let stage : l.start / k < 8 = (div-lt_iff_lt-mul some).1 within.0 in
+    let wider = widths_more k ls v lt in
+    let base : (below + 64 - l.start / k) % 64 ≡ rotating_base (record { interval = k; lives = ls }) v =
+    (let back : (below + 64 - l.start / k) % 64 ≡ (below + 63 * (l.start / k)) % 64 = omega arith in back ∙ ap (λ n. (n + 63 * (l.start / k)) % 64) laid.sum) in
+    record {
+      sum = omega (arith, laid.sum);
+      small = omega (arith, laid.small);
+      count = grind (arith, length-append, laid.count);
+      each = below_more _ _ (λ w h. get_or_append_left bases _ 0 w (omega (arith, laid.count)) ∙ laid.each w h) (get_or_push bases _ 0 v laid.count ∙ base);
+    }

@@ -1,3 +1,2 @@
-pub mod Tables
 pub mod Layouts
 pub mod Expansions

@@ -1,6 +1,6 @@
 // How the expanded scheme gives registers: each variable has one for each turn.
 ghost use Rattle.std.specs.Prelude.{◌≡◌, ◌*◌, ◌≤◌, true, is_some, if◌then◌else◌, nat_lt};
-ghost use Rattle.model.specs.Schemes.{expanded_turns, expanded_need, expanded, no_lives};
+ghost use Rattle.model.specs.Schemes.{want as want_of, expanded_turns, expanded_need, expanded, no_lives};
 ghost use Rattle.registers.specs.Views.{table};
 ghost use Rattle.registers.specs.Fits.{Fitted};
 ghost use Rattle.registers.specs.Meanings.{expanded_meaning};
@@ -9,40 +9,40 @@ ghost use Rattle.std.proofs.Common.{refl};
 
 use crate::expanded::Expanded;
 use crate::lives::Lives;
-use crate::scheme::Scheme;
+use crate::scheme::{BACK, FILE, Scheme, TURNS};
+use model::Life;
 
-// The registers of the file, and a need that is beyond every file.
-const FILE: usize = 64;
-
+// A need that is beyond every file.
 const TOO_MUCH: usize = 257;
 
-// The most turns, and the most passes back for which there is a name.
-const TURNS: usize = 8;
+// The turns that a life wants: the most instances of its variable that are alive in a cycle.
+fn want(interval: usize, life: &Life) -> usize
+    requires some { 1 ≤ interval }
+    requires forward { life.now.start ≤ life.now.end }
+    requires near { life.now.end ≤ 4095 }
+    ensures { result ≡ want_of interval life.now }
+{
+    (life.end - life.start) / interval + 1
+}
 
-const BACK: usize = 14;
-
-// The turns that a table wants: the most instances of one variable that are alive in a cycle, 1 without variables.
+// The turns that a table wants: the most that a life wants, 1 without variables.
 fn turns_for(lives: &Lives) -> usize
     ensures { result ≡ expanded_turns (table lives.now) }
 {
-    let interval = lives.interval();
-    let mut turns = 1usize;
-    for life in lives.as_slice() {
-        turns = turns.max((life.end - life.start) / interval + 1);
-    }
-    turns
+    let interval = lives.interval;
+    lives
+        .as_slice()
+        .iter()
+        .map(|life| want(interval, life))
+        .fold(1, usize::max)
 }
 
-// The registers that so many variables with so many turns need: more than any file has where there would be too many turns.
-fn need_with(turns: usize, variables: usize) -> usize
+// The registers that a table needs with so many turns for each variable, unless there are too many turns.
+fn need_with(turns: usize, variables: usize) -> Option<usize>
     requires { variables ≤ 32 }
-    ensures { result ≡ (if nat_lt 8 turns then 257 else turns * variables) }
+    ensures { result ≡ (if nat_lt 8 turns then None else Some (turns * variables)) }
 {
-    if turns > TURNS {
-        TOO_MUCH
-    } else {
-        turns * variables
-    }
+    (turns <= TURNS).then(|| turns * variables)
 }
 
 impl Expanded {
@@ -57,7 +57,7 @@ impl Expanded {
     pub fn need(lives: &Lives) -> usize
         ensures { result ≡ expanded_need (table lives.now) }
     {
-        need_with(turns_for(lives), lives.as_slice().len())
+        need_with(turns_for(lives), lives.as_slice().len()).unwrap_or(TOO_MUCH)
     }
 }
 
@@ -80,11 +80,8 @@ impl Scheme for Expanded {
     {
         let turns = turns_for(lives);
         let count = lives.as_slice().len();
-        if need_with(turns, count) > FILE {
-            return None;
-        }
-        self.turns = turns;
-        self.count = count;
+        need_with(turns, count).filter(|need| *need <= FILE)?;
+        *self = Expanded { count, turns };
         Some(turns)
     }
 
@@ -96,7 +93,7 @@ impl Scheme for Expanded {
         }
     }
 
-    fn resolve(&self, name: usize, pass: usize) -> usize {
+    fn resolve(&self, name: usize, _pass: usize) -> usize {
         if name < FILE { name } else { 0 }
     }
 }

@@ -1,9 +1,7 @@
 // The rotating scheme: of each variable the register of its instance 0.
-ghost use Rattle.std.specs.Prelude.{◌≤◌};
+use few::Few;
 
 #[derive(Clone, Copy)]
 pub struct Rotating {
-    pub(crate) count: usize,
-    pub(crate) bases: [u8; 32],
-    ghost few: { count ≤ 32 },
+    pub(crate) bases: Few<u8, 32>,
 }

@@ -1,6 +1,7 @@
 // How the rotating scheme gives registers: each pass turns them by one.
-ghost use Rattle.std.specs.Prelude.{◌≡◌, ℕ, ◌<◌, true, length, is_some, slice_index};
-ghost use Rattle.model.specs.Schemes.{rotating_need, rotating_base, rotating, no_lives};
+ghost use Rattle.std.specs.Prelude.{◌≡◌, ℕ, ◌≤◌, true, length, is_some, slice_index};
+ghost use Rattle.model.specs.Schemes.{width as width_of, rotating_need, rotating, no_lives};
+ghost use Rattle.few.specs.Held.{held};
 ghost use Rattle.registers.specs.Views.{table};
 ghost use Rattle.registers.specs.Fits.{Fitted};
 ghost use Rattle.registers.specs.Meanings.{rotating_meaning};
@@ -9,28 +10,18 @@ ghost use Rattle.std.proofs.Common.{refl};
 
 use crate::lives::Lives;
 use crate::rotating::Rotating;
-use crate::scheme::Scheme;
+use crate::scheme::{BACK, FILE, Scheme};
+use few::Few;
+use model::Life;
 
-// The registers of the file.
-const FILE: usize = 64;
-
-// The most passes back for which there is a name.
-const BACK: usize = 14;
-
-// Gives each life its width, one behind the other: the base of each variable, and what all of them need.
-fn lay_out(lives: &Lives) -> ([u8; 32], usize)
-    ensures need { result.1 ≡ rotating_need (table lives.now) }
-    ensures bases { (v : ℕ) → v < length (table lives.now).lives → slice_index result.0 v ≡ rotating_base (table lives.now) v }
+// The registers that a life takes: as many as it touches stages.
+fn width(interval: usize, life: &Life) -> usize
+    requires some { 1 ≤ interval }
+    requires forward { life.now.start ≤ life.now.end }
+    requires near { life.now.end ≤ 4095 }
+    ensures { result ≡ width_of interval life.now }
 {
-    let interval = lives.interval();
-    let mut bases = [0u8; 32];
-    let mut need = 0usize;
-    for (v, life) in lives.as_slice().iter().enumerate() {
-        let stage = life.start / interval;
-        bases[v] = ((need + FILE - stage) % FILE) as u8;
-        need += life.end / interval - stage + 1;
-    }
-    (bases, need)
+    life.end / interval - life.start / interval + 1
 }
 
 impl Rotating {
@@ -38,18 +29,34 @@ impl Rotating {
     pub fn new() -> Rotating
         ensures { rotating_meaning result ≡ rotating no_lives }
     {
-        Rotating {
-            count: 0,
-            bases: [0; 32],
-        }
+        Rotating { bases: Few::new(0) }
     }
 
     // The registers that a table needs.
     pub fn need(lives: &Lives) -> usize
         ensures { result ≡ rotating_need (table lives.now) }
     {
-        let (_, need) = lay_out(lives);
-        need
+        let interval = lives.interval;
+        lives
+            .as_slice()
+            .iter()
+            .map(|life| width(interval, life))
+            .sum()
+    }
+
+    // Gives each life its width, one behind the other.
+    fn laid_out(lives: &Lives) -> Rotating
+        ensures { rotating_meaning result ≡ rotating (table lives.now) }
+    {
+        let interval = lives.interval;
+        let mut bases = Few::new(0);
+        let mut below = 0usize;
+        for life in lives.as_slice() {
+            let base = (below + FILE - life.start / interval) % FILE;
+            bases.push(base as u8).unwrap();
+            below += width(interval, life);
+        }
+        Rotating { bases }
     }
 }
 
@@ -60,7 +67,7 @@ impl Scheme for Rotating {
 
     ghost placed = { λ _. refl };
 
-    ghost lawful = { λ s. rotating_lawful s.count (λ v. slice_index s.bases v) };
+    ghost lawful = { λ s. rotating_lawful (length (held s.bases)) (λ v. slice_index (held s.bases) v) };
 
     fn file(&self) -> usize {
         FILE
@@ -70,20 +77,17 @@ impl Scheme for Rotating {
         ensures fitted { Fitted rotating_meaning (λ s. (rotating_meaning s).place) self.old self.new (table lives.now) result }
         ensures formula { is_some result ≡ true → rotating_meaning self.new ≡ rotating (table lives.now) }
     {
-        let (bases, need) = lay_out(lives);
-        if need > FILE {
+        if Rotating::need(lives) > FILE {
             return None;
         }
-        self.bases = bases;
-        self.count = lives.as_slice().len();
+        *self = Rotating::laid_out(lives);
         Some(1)
     }
 
     fn name(&self, variable: usize, copy: usize, back: usize) -> usize {
-        if variable < self.count && copy < 1 && back <= BACK {
-            (usize::from(self.bases[variable]) + back) % FILE
-        } else {
-            0
+        match self.bases.as_slice().get(variable) {
+            Some(base) if copy < 1 && back <= BACK => (usize::from(*base) + back) % FILE,
+            _ => 0,
         }
     }
 

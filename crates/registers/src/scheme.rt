@@ -6,6 +6,14 @@ ghost use Rattle.registers.specs.Fits.{Fitted};
 
 use crate::lives::Lives;
 
+// The most turns, and the most passes back for which there is a name.
+pub const TURNS: usize = 8;
+
+pub const BACK: usize = 14;
+
+// The registers of the file that the rotating and the expanded scheme share.
+pub(crate) const FILE: usize = 64;
+
 pub trait Scheme {
     ghost meaning: { Self → Meaning };
 

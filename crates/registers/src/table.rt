@@ -1,9 +1,10 @@
 // How a table of lives is made, filled and read.
-ghost use Rattle.std.specs.Prelude.{◌≡◌, ◌≤◌, [], length, MatchOption};
-ghost use Rattle.model.specs.Lives.{Limits};
+ghost use Rattle.std.specs.Prelude.{◌≡◌, ◌≤◌, [], length, All, MatchOption};
+ghost use Rattle.model.specs.Lives.{LifeWithin, Limits};
 ghost use Rattle.registers.specs.Views.{table, Filled};
 
 use crate::lives::Lives;
+use few::Few;
 use model::Life;
 
 // The most lives in a table, and the last cycle in which one may end.
@@ -16,13 +17,13 @@ impl Lives {
     pub fn new(interval: usize) -> Option<Lives>
         ensures { MatchOption result ((1 ≤ interval) × (interval ≤ 256) → ⊥) (λ l. table l ≡ record { interval = interval; lives = [] }) }
     {
-        if interval < 1 || interval > 256 {
+        if !(1..=256).contains(&interval) {
             return None;
         }
+        let blank = Life { start: 0, end: 0 };
         Some(Lives {
             interval,
-            count: 0,
-            lives: [Life { start: 0, end: 0 }; MOST],
+            lives: Few::new(blank),
         })
     }
 
@@ -30,16 +31,11 @@ impl Lives {
     pub fn push(&mut self, life: Life) -> bool
         ensures { Filled self.old self.new life result }
     {
-        if self.count >= MOST
-            || life.start >= 8 * self.interval
-            || life.end < life.start
-            || life.end > LAST
-        {
-            return false;
-        }
-        self.lives[self.count] = life;
-        self.count += 1;
-        true
+        self.as_slice().len() < MOST
+            && life.start < 8 * self.interval
+            && life.start <= life.end
+            && life.end <= LAST
+            && self.lives.push(life).is_ok()
     }
 
     pub fn interval(&self) -> usize
@@ -53,7 +49,8 @@ impl Lives {
         ensures lives { result.now ≡ (table self.now).lives }
         ensures few { length result.now ≤ 32 }
         ensures limits { Limits (table self.now) }
+        ensures each { All (LifeWithin (table self.now).interval) result.now }
     {
-        &self.lives[0..self.count]
+        self.lives.as_slice()
     }
 }

@@ -1,40 +1,14 @@
-use Rattle.std.proofs.Common.{◌≤◌, length, sym, refl, ap, subst, arith}
-use Rattle.model.specs.Schemes.{Apart, expanded_need}
+use Rattle.std.proofs.Common.{length, refl, sym, ap, ap₂, subst, rules}
+use Rattle.model.specs.Schemes.{Accepted, expanded_with}
 use Rattle.register_laws.proofs.Expanded.{expanded_apart}
 use Rattle.registers.specs.Views.{table}
-use Rattle.registers.proofs.Expansions.{need_is, meaning_is, fitting}
+use Rattle.registers.specs.Meanings.{expanded_meaning}
 use Rattle.registers.proofs.expansion.ExpandedScheme.fit.Goals as goal
 
-pub invariant_of-self : goal.invariant_of-self
-invariant_of-self c =
+pub returns-clause-fitted : goal.returns-clause-fitted
+returns-clause-fitted c =
     let t = table c.args.lives.now in
-    let u = c.turns_for-turns.result in
-    let n = length c.as_slice-count.result.now in
-    let e = c.turns_for-turns.ensures in
-    let f = ap length c.as_slice-count.ensures.lives in
-    let is = need_is t u n e f c.need_with.result c.need_with.ensures in
-    let within : expanded_need t ≤ 64 = omega arith in
-    let fit = fitting t u n e f within in
-    record { some = fit.0; few = fit.1; fits = fit.2 }
-
-pub returns : goal.returns
-returns c =
-    let t = table c.args.lives.now in
-    let u = c.turns_for-turns.result in
-    let n = length c.as_slice-count.result.now in
-    let e = c.turns_for-turns.ensures in
-    let f = ap length c.as_slice-count.ensures.lives in
-    let is = need_is t u n e f c.need_with.result c.need_with.ensures in
-    let within : expanded_need t ≤ 64 = omega arith in
-    let formula = meaning_is t u n e f in
-    record {
-      fitted = record {
-        within = within;
-        turns = refl;
-        variables = f;
-        file = refl;
-        need = refl;
-        apart = subst (λ m. Apart t m.place) (sym formula) (expanded_apart t c.as_slice-count.ensures.limits);
-      };
-      formula = λ _. formula;
-    }
+    let turns = c.turns_for-turns.ensures in
+    let formula = ap₂ expanded_with (ap length c.as_slice-count.ensures.lives) turns in
+    subst (λ m. Accepted (expanded_meaning c.args.self.now) m m.place t c.turns_for-turns.result) (sym formula)
+    (record { within = search rules; turns = turns; variables = refl; file = refl; need = refl; apart = expanded_apart t c.args.lives.now.limits })
