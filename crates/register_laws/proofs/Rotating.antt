@@ -1,13 +1,14 @@
 -- The rotating scheme keeps the law.
-use Rattle.std.proofs.Common.{◌≡◌, ℕ, zero, suc, ◌+◌, ◌-◌, ◌*◌, ◌/◌, ◌%◌, ◌<◌, ◌≤◌, Bool, true, cond, ◌&&◌, ltb, leb, List, [], ◌∷◌, length, get_or, take, sym, refl, ap, ◌∙◌, subst, inl, inr, le_trans, le-div_iff_mul-le, div-mul-le_self, arith}
-use mathlib.Core.Path.{fun_ext}
+use Rattle.std.proofs.Common.{◌≡◌, ℕ, zero, suc, ◌+◌, ◌-◌, ◌*◌, ◌/◌, ◌%◌, ◌<◌, ◌≤◌, true, ltb, List, [], ◌∷◌, length, get_or, take, take_all, sym, refl, ap, ◌∙◌, subst, inl, inr, le_trans, le-div_iff_mul-le, div-mul-le_self, arith}
 use native.Mathlib.Nat.{add-mul-div_right}
-use Rattle.std.proofs.lemmas.Bool.{cases_Bool, cases_lt, cases_order, and_parts, and_from, ltb-true, leb-true, lt-ltb, le-ltb, le-leb, cond-true, cond-false, cond_both}
+use Rattle.std.proofs.lemmas.Bool.Decides.{nat_tests}
+use Rattle.std.proofs.lemmas.Bool.{cases_order, lt-ltb, cond-true}
 use Rattle.model.specs.declared.Life.{Life}
 use Rattle.model.specs.Lives.{Table, no_life, life, Limits}
-use Rattle.model.specs.Schemes.{Apart, Nameable, Lawful, less, width, widths, rotating_need, rotating_base, rotating_with, rotating}
+use Rattle.model.specs.Schemes.{Apart, Lawful, width, widths, rotating_need, rotating_base, rotating_with, rotating}
 use Rattle.model.specs.SchemeLaws.{KeepsLaw}
 use Rattle.register_laws.proofs.Modulo.{forth_and_back}
+use Rattle.register_laws.proofs.Names.{named, unnamed, named_below}
 
 -- a lower variable's registers end before a higher one's begin
 lower : (k : ℕ) (ls : List Life) (v w : ℕ) → v < w → v < length ls → widths k (take v ls) + width k (get_or ls v no_life) ≤ widths k (take w ls)
@@ -26,9 +27,7 @@ widths_more k (l ∷ ls) (suc v) h =
     ap (λ n. widths k (take n (l ∷ ls))) e ∙ omega arith
 
 all : (k : ℕ) (ls : List Life) (v : ℕ) → v < length ls → widths k (take v ls) + width k (get_or ls v no_life) ≤ widths k ls
-all k [] v h = omega arith
-all k (l ∷ ls) zero h = omega arith
-all k (l ∷ ls) (suc v) h = let r = all k ls v (omega arith) in omega arith
+all k ls v h = subst (λ some. widths k (take v ls) + width k (get_or ls v no_life) ≤ widths k some) (take_all (length ls) ls (omega arith)) (lower k ls v (length ls) h h)
 
 pub div_le_div_right : {a b : ℕ} (k : ℕ) → 0 < k → a ≤ b → a / k ≤ b / k
 div_le_div_right {a} {b} k some h = (le-div_iff_mul-le some).1 (le_trans (div-mul-le_self a k) h)
@@ -79,19 +78,9 @@ rotating_apart t limits fits v i w j c a b same =
 
 -- whatever its bases are, the ranges hold and names lead to places
 module _ (n : ℕ) (base : ℕ → ℕ) where
-  name_of : (v c r : ℕ) → v < n → c < 1 → r ≤ 14 → (rotating_with n base).name v c r ≡ (base v + r) % 64
-  name_of v c r hv hc hr = cond-true (ltb v n && (ltb c 1 && leb r 14)) _ 0 (and_from _ _ (lt-ltb v n hv) (and_from _ _ (lt-ltb c 1 hc) (le-leb r 14 hr)))
-
-  outside : (v c r : ℕ) → (Nameable (rotating_with n base) v c r → ⊥) → (rotating_with n base).name v c r ≡ 0
-  outside v c r no_name = elim (cases_Bool (ltb v n && (ltb c 1 && leb r 14))) [
-    | inl e ↦ let p = and_parts _ _ e in let q = and_parts _ _ p.1 in
-        absurd (no_name (ltb-true v n p.0, ltb-true c 1 q.0, leb-true r 14 q.1))
-    | inr e ↦ cond-false _ _ 0 e
-  ]
-
   leads : (v p r : ℕ) → v < n → r ≤ 14 → r ≤ p → (rotating_with n base).resolve ((rotating_with n base).name v (p % 1) r) p ≡ (rotating_with n base).place v (p - r)
   leads v p r hv hr hp =
-      let x = name_of v (p % 1) r hv (omega arith) hr in
+      let x = named n 1 v (p % 1) r ((base v + r) % 64) hv (omega arith) hr in
       let y : ltb ((base v + r) % 64) 64 ≡ true = lt-ltb _ 64 (omega arith) in
       ap (λ a. (rotating_with n base).resolve a p) x ∙ cond-true _ _ 0 y ∙ forth_and_back (base v) r p hp ∙ sym (place_of n base v (p - r) hv)
 
@@ -101,10 +90,10 @@ module _ (n : ℕ) (base : ℕ → ℕ) where
     small_file = omega arith;
     some_turns = omega arith;
     few_turns = omega arith;
-    names_below = λ v c r. cond_both (ltb v n && (ltb c 1 && leb r 14)) ((base v + r) % 64) 0 (λ x. x < 64) (λ _. omega arith) (λ _. omega arith);
-    names_outside = outside;
-    registers_below = λ a p. cond_both (ltb a 64) (less 64 a p) 0 (λ x. x < 64) (λ _. omega arith) (λ _. omega arith);
-    registers_outside = λ a p h. cond-false (ltb a 64) _ 0 (le-ltb a 64 h);
+    names_below = λ v c r. named_below n 1 v c r ((base v + r) % 64) 64 (omega arith) (λ _ _. omega arith);
+    names_outside = λ v c r. unnamed n 1 v c r ((base v + r) % 64);
+    registers_below = λ a p. grind (arith, nat_tests);
+    registers_outside = λ a p h. grind (arith, nat_tests);
     places_below = λ v i h. let e = place_of n base v i h in omega arith;
     resolves = leads;
   }
@@ -115,28 +104,3 @@ rotating_keeps t limits fits = record {
   variables = refl;
   apart = rotating_apart t limits fits;
 }
-
--- only the bases of the variables count
-module _ (n : ℕ) (f g : ℕ → ℕ) (same : (v : ℕ) → v < n → f v ≡ g v) where
-  guarded : (v : ℕ) (b : Bool) (F : ℕ → ℕ) → cond (ltb v n && b) (F (f v)) 0 ≡ cond (ltb v n && b) (F (g v)) 0
-  guarded v b F = elim (cases_Bool (ltb v n && b)) [
-    | inl e ↦ cond-true _ _ 0 e ∙ ap F (same v (ltb-true v n (and_parts _ _ e).0)) ∙ sym (cond-true _ _ 0 e)
-    | inr e ↦ cond-false _ _ 0 e ∙ sym (cond-false _ _ 0 e)
-  ]
-
-  placed : (v i : ℕ) → (rotating_with n f).place v i ≡ (rotating_with n g).place v i
-  placed v i = elim (cases_lt v n) [
-    | inl h ↦ place_of n f v i h ∙ ap (λ a. (a + 63 * i) % 64) (same v h) ∙ sym (place_of n g v i h)
-    | inr h ↦ cond-false _ _ 0 (le-ltb v n h) ∙ sym (cond-false _ _ 0 (le-ltb v n h))
-  ]
-
-  pub rotating_same : rotating_with n f ≡ rotating_with n g
-  rotating_same = λ x. record {
-    file = 64;
-    need = rotating_need;
-    variables = n;
-    turns = 1;
-    place = fun_ext (λ v. fun_ext (placed v)) x;
-    name = fun_ext (λ v. fun_ext (λ c. fun_ext (λ r. guarded v (ltb c 1 && leb r 14) (λ a. (a + r) % 64)))) x;
-    resolve = (rotating_with n f).resolve;
-  }
