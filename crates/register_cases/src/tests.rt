@@ -31,9 +31,7 @@ fn lived(interval: usize, many: usize, each: Life, last: Option<Life>) -> Shape 
 }
 
 fn table(rt: &impl Abort, shape: Shape) -> Result<Lives, Fail> {
-    let Some(mut lives) = Lives::new(shape.interval) else {
-        return Err(Fail::new("the interval is from 1 to 256"));
-    };
+    let mut lives = Lives::new(shape.interval).ok_or("the interval is from 1 to 256")?;
     for _ in 0..shape.many {
         assert!(rt; lives.push(shape.each));
     }
@@ -73,30 +71,42 @@ fn lives_within_the_limits(rt: HostRuntime) -> Result<(), Fail> {
     Ok(())
 }
 
+// What a table needs, and what a fresh scheme answers to it.
+type Row = (Shape, usize, Option<usize>);
+
+fn needs<S: Scheme + Copy, F: Fn(&Lives) -> usize>(
+    rt: &impl Abort,
+    fresh: S,
+    need: F,
+    rows: &[Row],
+) -> Result<(), Fail>
+    requires { F.IsAlwaysCallable need }
+{
+    for &(offered, needed, turns) in rows {
+        let lives = table(rt, offered)?;
+        assert_eq!(rt; need(&lives), needed);
+        let mut scheme = fresh;
+        assert_eq!(rt; scheme.fit(&lives), turns);
+    }
+    Ok(())
+}
+
 #[test]
 fn rotating_needs(rt: HostRuntime) -> Result<(), Fail> {
     let rows = [
-        (lived(1, 0, life(0, 0), None), 0, true),
-        (SUM, 4, true),
-        (lived(1, 1, life(0, 63), None), 64, true),
-        (lived(1, 1, life(0, 64), None), 65, false),
-        (lived(1, 1, life(7, 4095), None), 4089, false),
-        (lived(256, 1, life(0, 4095), None), 16, true),
-        (lived(256, 1, life(2047, 4095), None), 9, true),
-        (lived(1, 32, life(0, 1), None), 64, true),
-        (lived(1, 31, life(0, 1), Some(life(0, 2))), 65, false),
-        (lived(256, 32, life(255, 256), None), 64, true),
-        (lived(256, 32, life(0, 255), None), 32, true),
+        (lived(1, 0, life(0, 0), None), 0, Some(1)),
+        (SUM, 4, Some(1)),
+        (lived(1, 1, life(0, 63), None), 64, Some(1)),
+        (lived(1, 1, life(0, 64), None), 65, None),
+        (lived(1, 1, life(7, 4095), None), 4089, None),
+        (lived(256, 1, life(0, 4095), None), 16, Some(1)),
+        (lived(256, 1, life(2047, 4095), None), 9, Some(1)),
+        (lived(1, 32, life(0, 1), None), 64, Some(1)),
+        (lived(1, 31, life(0, 1), Some(life(0, 2))), 65, None),
+        (lived(256, 32, life(255, 256), None), 64, Some(1)),
+        (lived(256, 32, life(0, 255), None), 32, Some(1)),
     ];
-    for (offered, need, fits) in rows {
-        let lives = table(&rt, offered)?;
-        assert_eq!(rt; Rotating::need(&lives), need);
-        assert_eq!(rt;
-            Rotating::new().fit(&lives),
-            if fits { Some(1) } else { None }
-        );
-    }
-    Ok(())
+    needs(&rt, Rotating::new(), Rotating::need, &rows)
 }
 
 #[test]
@@ -114,25 +124,20 @@ fn expanded_needs(rt: HostRuntime) -> Result<(), Fail> {
         (lived(1, 31, life(0, 0), Some(life(0, 2))), 96, None),
         (lived(256, 32, life(0, 255), None), 32, Some(1)),
     ];
-    for (offered, need, turns) in rows {
-        let lives = table(&rt, offered)?;
-        assert_eq!(rt; Expanded::need(&lives), need);
-        assert_eq!(rt; Expanded::new().fit(&lives), turns);
-    }
-    Ok(())
+    needs(&rt, Expanded::new(), Expanded::need, &rows)
 }
 
 // The names of (variable, copy, back).
 fn names<S: Scheme>(rt: &impl Abort, scheme: &S, rows: &[((usize, usize, usize), usize)]) {
-    for ((variable, copy, back), name) in rows {
-        assert_eq!(rt; scheme.name(*variable, *copy, *back), *name);
+    for &((variable, copy, back), name) in rows {
+        assert_eq!(rt; scheme.name(variable, copy, back), name);
     }
 }
 
 // The registers of (name, pass).
 fn resolved<S: Scheme>(rt: &impl Abort, scheme: &S, rows: &[((usize, usize), usize)]) {
-    for ((name, pass), register) in rows {
-        assert_eq!(rt; scheme.resolve(*name, *pass), *register);
+    for &((name, pass), register) in rows {
+        assert_eq!(rt; scheme.resolve(name, pass), register);
     }
 }
 
