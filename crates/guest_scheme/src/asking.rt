@@ -17,10 +17,10 @@ pub fn register<S: Scheme>(
     ensures { turns ≡ (S.meaning scheme.now).turns → variable < (S.meaning scheme.now).variables → back ≤ 14 → back ≤ pass →
         result ≡ S.place scheme.now variable (pass - back) }
 {
-    if turns == 0 {
-        return 0;
+    match pass.checked_rem(turns) {
+        Some(copy) => scheme.resolve(scheme.name(variable, copy, back), pass),
+        None => 0,
     }
-    scheme.resolve(scheme.name(variable, pass % turns, back), pass)
 }
 
 // The value of a variable in an iteration.

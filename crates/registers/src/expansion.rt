@@ -1,5 +1,6 @@
 // How the expanded scheme gives registers: each variable has one for each turn.
 ghost use Rattle.std.specs.Prelude.{◌≡◌, ◌*◌, ◌≤◌, true, is_some, if◌then◌else◌, nat_lt};
+ghost use Rattle.model.specs.Lives.{LifeWithin};
 ghost use Rattle.model.specs.Schemes.{want as want_of, expanded_turns, expanded_need, expanded, no_lives};
 ghost use Rattle.registers.specs.Views.{table};
 ghost use Rattle.registers.specs.Fits.{Fitted};
@@ -17,9 +18,7 @@ const TOO_MUCH: usize = 257;
 
 // The turns that a life wants: the most instances of its variable that are alive in a cycle.
 fn want(interval: usize, life: &Life) -> usize
-    requires some { 1 ≤ interval }
-    requires forward { life.now.start ≤ life.now.end }
-    requires near { life.now.end ≤ 4095 }
+    requires { LifeWithin interval life.now }
     ensures { result ≡ want_of interval life.now }
 {
     (life.end - life.start) / interval + 1

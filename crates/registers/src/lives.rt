@@ -5,9 +5,12 @@ ghost use Rattle.few.specs.Held.{held};
 use few::Few;
 use model::Life;
 
+// The most lives in a table.
+pub(crate) const MOST: usize = 32;
+
 #[derive(Clone, Copy)]
 pub struct Lives {
     pub(crate) interval: usize,
-    pub(crate) lives: Few<Life, 32>,
+    pub(crate) lives: Few<Life, MOST>,
     ghost limits: { Limits (record { interval = interval; lives = held lives }) },
 }

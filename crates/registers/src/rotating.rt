@@ -1,7 +1,8 @@
 // The rotating scheme: of each variable the register of its instance 0.
+use crate::lives::MOST;
 use few::Few;
 
 #[derive(Clone, Copy)]
 pub struct Rotating {
-    pub(crate) bases: Few<u8, 32>,
+    pub(crate) bases: Few<u8, MOST>,
 }

@@ -1,5 +1,6 @@
 // How the rotating scheme gives registers: each pass turns them by one.
 ghost use Rattle.std.specs.Prelude.{◌≡◌, ℕ, ◌≤◌, true, length, is_some, slice_index};
+ghost use Rattle.model.specs.Lives.{LifeWithin};
 ghost use Rattle.model.specs.Schemes.{width as width_of, rotating_need, rotating, no_lives};
 ghost use Rattle.few.specs.Held.{held};
 ghost use Rattle.registers.specs.Views.{table};
@@ -16,9 +17,7 @@ use model::Life;
 
 // The registers that a life takes: as many as it touches stages.
 fn width(interval: usize, life: &Life) -> usize
-    requires some { 1 ≤ interval }
-    requires forward { life.now.start ≤ life.now.end }
-    requires near { life.now.end ≤ 4095 }
+    requires { LifeWithin interval life.now }
     ensures { result ≡ width_of interval life.now }
 {
     life.end / interval - life.start / interval + 1

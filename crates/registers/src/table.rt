@@ -3,13 +3,11 @@ ghost use Rattle.std.specs.Prelude.{◌≡◌, ◌≤◌, [], length, All, Match
 ghost use Rattle.model.specs.Lives.{LifeWithin, Limits};
 ghost use Rattle.registers.specs.Views.{table, Filled};
 
-use crate::lives::Lives;
+use crate::lives::{Lives, MOST};
 use few::Few;
 use model::Life;
 
-// The most lives in a table, and the last cycle in which one may end.
-const MOST: usize = 32;
-
+// The last cycle in which a life may end.
 const LAST: usize = 4095;
 
 impl Lives {
