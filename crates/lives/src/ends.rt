@@ -52,8 +52,8 @@ pub(crate) fn last_reads(l: &Loop, times: &[u16; 32], interval: usize) -> [usize
     ensures { (v : ℕ) → slice_index result v ≡ last_read (loop_seen l.now) (scheduled interval times.now) v (length (loop_seen l.now)) }
 {
     let mut ends = [0; 32];
-    for q in 0..l.count {
-        note_operation(&mut ends, l.operations[q], times[q] as usize, interval);
+    for (q, operation) in l.operations().iter().enumerate() {
+        note_operation(&mut ends, *operation, times[q] as usize, interval);
     }
     ends
 }

@@ -1,41 +1,22 @@
 // The table of lives of a schedule.
 ghost use Rattle.std.specs.Prelude.{◌≡◌, ℕ, ◌+◌, ◌-◌, ◌<◌, ◌≤◌, max, Bool, MatchOption};
-ghost use Rattle.model.specs.Loop.{makes as makes_value};
 ghost use Rattle.model.specs.Limits.{timing};
-ghost use Rattle.dependence.specs.Operations.{operation_seen};
 ghost use Rattle.dependence.specs.Loops.{loop_seen};
 ghost use Rattle.lives.specs.Schedules.{scheduled, LivesOf};
 
 use crate::ends::last_reads;
 use dependence::loops::Loop;
-use dependence::operation::Operation;
 use model::{Life, Timing};
 use registers::lives::Lives;
 
 // The last cycle in which a life may end.
 const LAST: usize = 4095;
 
-// Whether an operation makes a value.
-fn makes(operation: Operation) -> bool
-    ensures { result ≡ makes_value (operation_seen operation) }
-{
-    match operation {
-        Operation::Load(_) => true,
-        Operation::Store(_, _) => false,
-        Operation::Binary(_, _, _) => true,
-        Operation::Move(_) => true,
-    }
-}
-
 // The latency of an operation, 0 without a timing.
 fn latency_of(timings: &[Timing], operation: usize) -> usize
     ensures { result ≡ (timing timings.now operation).latency }
 {
-    if operation < timings.len() {
-        timings[operation].latency
-    } else {
-        0
-    }
+    timings.get(operation).map_or(0, |timing| timing.latency)
 }
 
 // From the time of its definer until a value is about to land, or to its last read if that is later; none if it would land too late for any table.
@@ -59,8 +40,8 @@ pub fn lives_of(l: &Loop, timings: &[Timing], times: &[u16; 32], interval: usize
 {
     let mut lives = Lives::new(interval)?;
     let reads = last_reads(l, times, interval);
-    for j in 0..l.count {
-        if makes(l.operations[j]) {
+    for (j, operation) in l.operations().iter().enumerate() {
+        if operation.makes() {
             let life = life(times[j] as usize, latency_of(timings, j), reads[j])?;
             if !lives.push(life) {
                 return None;

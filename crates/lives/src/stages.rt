@@ -12,7 +12,7 @@ pub fn stages_of(l: &Loop, times: &[u16; 32], interval: usize) -> usize
     ensures { result ≡ stages (scheduled interval times.now) (length (loop_seen l.now)) }
 {
     let mut stages = 0;
-    for j in 0..l.count {
+    for (j, _) in l.operations().iter().enumerate() {
         let (stage, _) = stage_and_row(times[j] as usize, interval);
         if stages <= stage {
             stages = stage + 1;

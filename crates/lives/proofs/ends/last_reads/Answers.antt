@@ -13,7 +13,7 @@ loop-q-init c = λ v. zeros 32 v ∙ sym (read_none (loop_seen c.args.l.now) (sc
 
 pub note_operation-requires : goal.note_operation-requires
 note_operation-requires c = record {
-  near = near_at c.args.l.now c.loop-q.q _ c.loop-q-test.true;
+  near = near_at c.args.l.now _ c.operations-operation-items.ensures.operations c.loop-q.q _ c.loop-q-test.true;
   time = c.fits-times c.loop-q.q;
   interval = c.requires;
 }
@@ -21,10 +21,10 @@ note_operation-requires c = record {
 pub loop-q-preserved : goal.loop-q-preserved
 loop-q-preserved c =
     λ v. reads_then (loop_seen c.args.l.now) (scheduled c.args.interval c.args.times.now) v c.loop-q.q _ _ _ (c.loop-q.invariant v)
-    (seen_at c.args.l.now c.loop-q.q _ c.loop-q-test.true) (c.note_operation.ensures v)
+    (seen_at c.args.l.now _ c.operations-operation-items.ensures.operations c.loop-q.q _ c.loop-q-test.true) (c.note_operation.ensures v)
 
 pub returns : goal.returns
 returns c =
     let ops = loop_seen c.args.l.now in
-    let all : c.loop-q.q ≡ length ops = omega (arith, count_is c.args.l.now) in
+    let all : c.loop-q.q ≡ length ops = omega (arith, count_is c.args.l.now _ c.operations-operation-items.ensures.operations) in
     λ v. c.loop-q.invariant v ∙ ap (last_read ops (scheduled c.args.interval c.args.times.now) v) all

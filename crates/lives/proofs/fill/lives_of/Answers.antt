@@ -20,9 +20,9 @@ returns-in_err-life c =
     let us = c.args.timings.now in
     let w : Schedule = scheduled c.args.interval c.args.times.now in
     let j = c.loop-j.j in
-    let m : makes (op ops j) ≡ true = sym (ap makes (seen_at c.args.l.now j _ c.loop-j-test.true)) ∙ (sym c.makes.ensures ∙ c.if-makes.true) in
+    let m : makes (op ops j) ≡ true = sym (ap makes (seen_at c.args.l.now _ c.operations-operation-items.ensures.operations j _ c.loop-j-test.true)) ∙ (sym c.makes.ensures ∙ c.if-makes.true) in
     subst (LivesOf ops us w) (sym c.from_residual-in_err-life.ensures)
-    (λ units. no_room ops us w j c.latency_of.result units (omega (arith, count_is c.args.l.now)) m c.latency_of.ensures c.in_err-life.ensures)
+    (λ units. no_room ops us w j c.latency_of.result units (omega (arith, count_is c.args.l.now _ c.operations-operation-items.ensures.operations)) m c.latency_of.ensures c.in_err-life.ensures)
 
 pub returns-then-not-push : goal.returns-then-not-push
 returns-then-not-push c =
@@ -30,9 +30,9 @@ returns-then-not-push c =
     let us = c.args.timings.now in
     let w : Schedule = scheduled c.args.interval c.args.times.now in
     let j = c.loop-j.j in
-    let m : makes (op ops j) ≡ true = sym (ap makes (seen_at c.args.l.now j _ c.loop-j-test.true)) ∙ (sym c.makes.ensures ∙ c.if-makes.true) in
+    let m : makes (op ops j) ≡ true = sym (ap makes (seen_at c.args.l.now _ c.operations-operation-items.ensures.operations j _ c.loop-j-test.true)) ∙ (sym c.makes.ensures ∙ c.if-makes.true) in
     let is = life_then ops us w j c.latency_of.result _ c.in_ok-life.life c.latency_of.ensures (c.last_reads-reads.ensures j) c.in_ok-life.ensures in
-    λ units. no_push ops us w j c.in_ok-life.life (table c.loop-j.lives) units (omega (arith, count_is c.args.l.now)) m is c.loop-j.invariant c.if-not-push.ensures.0
+    λ units. no_push ops us w j c.in_ok-life.life (table c.loop-j.lives) units (omega (arith, count_is c.args.l.now _ c.operations-operation-items.ensures.operations)) m is c.loop-j.invariant c.if-not-push.ensures.0
 
 pub loop-j-preserved : goal.loop-j-preserved
 loop-j-preserved c =
@@ -40,7 +40,7 @@ loop-j-preserved c =
     let us = c.args.timings.now in
     let w : Schedule = scheduled c.args.interval c.args.times.now in
     let j = c.loop-j.j in
-    let m : makes (op ops j) ≡ c.makes.result = sym (ap makes (seen_at c.args.l.now j _ c.loop-j-test.true)) ∙ sym c.makes.ensures in
+    let m : makes (op ops j) ≡ c.makes.result = sym (ap makes (seen_at c.args.l.now _ c.operations-operation-items.ensures.operations j _ c.loop-j-test.true)) ∙ sym c.makes.ensures in
     elim c.if-makes.branch [
       | then-makes+in_ok-life+else-not-push x ↦
           let is = life_then ops us w j x.latency_of.result _ x.in_ok-life.life x.latency_of.ensures (c.last_reads-reads.ensures j) x.in_ok-life.ensures in
@@ -52,4 +52,4 @@ loop-j-preserved c =
 pub returns : goal.returns
 returns c =
     λ units. table_last (loop_seen c.args.l.now) c.args.timings.now (scheduled c.args.interval c.args.times.now) c.loop-j.j (table c.loop-j.lives) units
-    (omega (arith, count_is c.args.l.now)) c.loop-j.invariant
+    (omega (arith, count_is c.args.l.now _ c.operations-operation-items.ensures.operations)) c.loop-j.invariant

@@ -18,4 +18,4 @@ loop-j-preserved c =
     ]
 
 pub returns : goal.returns
-returns c = c.loop-j.invariant ∙ ap (stages (scheduled c.args.interval c.args.times.now)) (omega (arith, count_is c.args.l.now))
+returns c = c.loop-j.invariant ∙ ap (stages (scheduled c.args.interval c.args.times.now)) (omega (arith, count_is c.args.l.now _ c.operations-items.ensures.operations))
