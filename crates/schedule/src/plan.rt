@@ -22,7 +22,7 @@ pub fn schedule_loop<S: Scheme>(
     ensures { ScheduleOf S.meaning S.place (machine_seen machine.now) (loop_seen l.now) edges.now scheme.old scheme.new result }
 {
     let timings = timings_of(machine, l);
-    let timings = &timings[0..l.count];
+    let timings = timings.as_slice();
     let units = units_of(machine);
     let units = &units[0..machine.entries.count];
     match minimum(edges, timings, units) {
