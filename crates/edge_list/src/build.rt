@@ -1,15 +1,17 @@
 // The edges of a loop, in the order of their numbers.
-ghost use Rattle.std.specs.Prelude.{◌≡◌, ◌+◌, ◌<◌, ◌≤◌, [], length, IfOk};
+ghost use Rattle.std.specs.Prelude.{◌≡◌, ◌+◌, ◌<◌, ◌≤◌, [], length, slice_index_or, IfOk};
 ghost use Rattle.model.specs.Edges.{edges};
 ghost use Rattle.model.specs.Soundness.{hardware};
 ghost use Rattle.texts.specs.Records.{machine_seen};
+ghost use Rattle.dependence.specs.Operations.{operations_seen};
 ghost use Rattle.dependence.specs.Loops.{loop_seen};
 ghost use Rattle.edge_list.specs.Appended.{Appended, RoomFor};
-ghost use Rattle.edge_list.specs.Lists.{operand_part, row_of, memory_part};
+ghost use Rattle.edge_list.specs.Lists.{operand_part, row_in, memory_in};
 
 use crate::list::Edges;
 use crate::push::{push_between, push_operands};
 use dependence::loops::Loop;
+use dependence::operation::Operation;
 use model::Edge;
 use std::alloc::{AllocError, Global};
 use texts::machine::Machine;
@@ -21,29 +23,31 @@ fn push_operand_edges(list: &mut Vec<Edge>, machine: &Machine, l: &Loop)
     requires { RoomFor (operand_part machine.now l.now) list.old }
     ensures { Appended list.old list.new (operand_part machine.now l.now) }
 {
-    for q in 0..l.count {
-        let operation = l.operations[q];
+    for (q, operation) in l.operations().iter().enumerate() {
         push_operands(list, machine, l, q, operation);
     }
 }
 
-// The memory edges between line p and the later ones.
-fn push_row(list: &mut Vec<Edge>, l: &Loop, p: usize)
-    requires inside { p < l.now.count }
-    requires room { RoomFor (row_of l.now p) list.old }
-    ensures { Appended list.old list.new (row_of l.now p) }
+// The memory edges between the operation on line p and the later ones.
+fn push_row(list: &mut Vec<Edge>, operations: &[Operation], p: usize, first: &Operation)
+    requires inside { p < length operations.now }
+    requires first { first.now ≡ slice_index_or operations.now p first.now }
+    requires room { RoomFor (row_in (operations_seen operations.now) p) list.old }
+    ensures { Appended list.old list.new (row_in (operations_seen operations.now) p) }
 {
-    for q in p + 1..l.count {
-        push_between(list, l, p, q);
+    for (q, second) in operations.iter().enumerate() {
+        if p < q {
+            push_between(list, p, first, q, second);
+        }
     }
 }
 
-fn push_memory_edges(list: &mut Vec<Edge>, l: &Loop)
-    requires { RoomFor (memory_part l.now) list.old }
-    ensures { Appended list.old list.new (memory_part l.now) }
+fn push_memory_edges(list: &mut Vec<Edge>, operations: &[Operation])
+    requires { RoomFor (memory_in (operations_seen operations.now)) list.old }
+    ensures { Appended list.old list.new (memory_in (operations_seen operations.now)) }
 {
-    for p in 0..l.count {
-        push_row(list, l, p);
+    for (p, first) in operations.iter().enumerate() {
+        push_row(list, operations, p, first);
     }
 }
 
@@ -62,7 +66,7 @@ impl Edges {
     {
         self.list.clear();
         push_operand_edges(&mut self.list, machine, l);
-        push_memory_edges(&mut self.list, l);
+        push_memory_edges(&mut self.list, l.operations());
     }
 
     pub fn as_slice(&self) -> &[Edge]

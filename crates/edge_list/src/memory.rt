@@ -1,10 +1,8 @@
 // At which distances two operations on different lines touch one cell. The memory rule stands in `cells_meet`, and nowhere else.
-ghost use Rattle.std.specs.Prelude.{◌≡◌, ◌<◌, not};
-ghost use Rattle.model.specs.Loop.{makes};
+ghost use Rattle.std.specs.Prelude.{◌≡◌, ◌<◌};
 ghost use Rattle.model.specs.Edges.{memory_delay};
 ghost use Rattle.edge_laws.specs.Meeting.{whole_strides, to_later, to_earlier, distance_on, distance_back};
 ghost use Rattle.dependence.specs.Operations.{operation_seen};
-ghost use Rattle.edge_list.specs.Cells.{cell_in};
 
 use dependence::operation::Operation;
 use operations::Cell;
@@ -68,53 +66,23 @@ fn cells_meet(a: Cell, b: Cell) -> Meeting
     }
 }
 
-fn cell_of(operation: Operation) -> Option<Cell>
-    ensures { result ≡ cell_in operation }
-{
-    match operation {
-        Operation::Load(cell) => Some(cell),
-        Operation::Store(_, cell) => Some(cell),
-        Operation::Binary(_, _, _) => None,
-        Operation::Move(_) => None,
-    }
-}
-
-fn stores(operation: Operation) -> bool
-    ensures { result ≡ not (makes (operation_seen operation)) }
-{
-    match operation {
-        Operation::Store(_, _) => true,
-        Operation::Load(_) => false,
-        Operation::Binary(_, _, _) => false,
-        Operation::Move(_) => false,
-    }
-}
-
 // A load comes before a store within a cycle, and nothing comes behind a store.
-pub(crate) fn delay_from(operation: Operation) -> usize
-    ensures { result ≡ memory_delay (operation_seen operation) }
+pub(crate) fn delay_from(operation: &Operation) -> usize
+    ensures { result ≡ memory_delay (operation_seen operation.now) }
 {
-    match operation {
-        Operation::Store(_, _) => 1,
-        Operation::Load(_) => 0,
-        Operation::Binary(_, _, _) => 0,
-        Operation::Move(_) => 0,
-    }
+    usize::from(!operation.makes())
 }
 
 // `first` is on the earlier line.
-pub(crate) fn operations_meet(first: Operation, second: Operation) -> Meeting
-    ensures later { result.ahead ≡ distance_on (operation_seen first) (operation_seen second) }
-    ensures earlier { result.back ≡ distance_back (operation_seen first) (operation_seen second) }
+pub(crate) fn operations_meet(first: &Operation, second: &Operation) -> Meeting
+    ensures later { result.ahead ≡ distance_on (operation_seen first.now) (operation_seen second.now) }
+    ensures earlier { result.back ≡ distance_back (operation_seen first.now) (operation_seen second.now) }
 {
-    if !stores(first) && !stores(second) {
+    if first.makes() && second.makes() {
         return APART;
     }
-    let Some(a) = cell_of(first) else {
-        return APART;
-    };
-    let Some(b) = cell_of(second) else {
-        return APART;
-    };
-    cells_meet(a, b)
+    match (first.cell(), second.cell()) {
+        (Some(a), Some(b)) => cells_meet(a, b),
+        _ => APART,
+    }
 }

@@ -1,12 +1,11 @@
 // What one operand, one operation and two lines add to the list.
-ghost use Rattle.std.specs.Prelude.{◌≡◌, ◌+◌, ◌<◌, ◌≤◌, [], ◌∷◌, length};
+ghost use Rattle.std.specs.Prelude.{◌≡◌, ◌+◌, ◌≤◌, [], ◌∷◌, length};
 ghost use Rattle.model.specs.Loop.{operands};
-ghost use Rattle.model.specs.Edges.{operand_edge, operand_edges, between};
+ghost use Rattle.model.specs.Edges.{operand_edge, operand_edges};
 ghost use Rattle.edge_laws.specs.Meeting.{edge_at, by_distance};
 ghost use Rattle.dependence.specs.Operations.{operand_seen, operation_seen};
-ghost use Rattle.dependence.specs.Loops.{loop_seen};
 ghost use Rattle.edge_list.specs.Appended.{Appended, RoomFor};
-ghost use Rattle.edge_list.specs.Lists.{hardware_of};
+ghost use Rattle.edge_list.specs.Lists.{hardware_of, pair};
 
 use crate::memory::{delay_from, operations_meet};
 use dependence::hardware::timing_of;
@@ -19,11 +18,10 @@ use texts::machine::Machine;
 fn latency_of(machine: &Machine, l: &Loop, definer: usize) -> usize
     ensures { result ≡ (hardware_of machine.now l.now).latency definer }
 {
-    if definer >= l.count {
-        return 0;
+    match l.operations().get(definer) {
+        Some(operation) => timing_of(machine, operation.code()).latency,
+        None => 0,
     }
-    let operation = l.operations[definer];
-    timing_of(machine, operation.code()).latency
 }
 
 fn push_operand(list: &mut Vec<Edge>, machine: &Machine, l: &Loop, reader: usize, operand: Operand)
@@ -46,34 +44,32 @@ pub(crate) fn push_operands(
     machine: &Machine,
     l: &Loop,
     reader: usize,
-    operation: Operation,
+    operation: &Operation,
 )
-    requires { RoomFor (operand_edges (hardware_of machine.now l.now) reader (operands (operation_seen operation))) list.old }
-    ensures { Appended list.old list.new (operand_edges (hardware_of machine.now l.now) reader (operands (operation_seen operation))) }
+    requires { RoomFor (operand_edges (hardware_of machine.now l.now) reader (operands (operation_seen operation.now))) list.old }
+    ensures { Appended list.old list.new (operand_edges (hardware_of machine.now l.now) reader (operands (operation_seen operation.now))) }
 {
     match operation {
         Operation::Load(_) => {}
-        Operation::Store(value, _) => push_operand(list, machine, l, reader, value),
-        Operation::Binary(_, left, right) => {
-            push_operand(list, machine, l, reader, left);
-            push_operand(list, machine, l, reader, right);
+        Operation::Store(value, _) | Operation::Move(value) => {
+            push_operand(list, machine, l, reader, *value)
         }
-        Operation::Move(value) => push_operand(list, machine, l, reader, value),
+        Operation::Binary(_, left, right) => {
+            push_operand(list, machine, l, reader, *left);
+            push_operand(list, machine, l, reader, *right);
+        }
     }
 }
 
 fn edge_at(from: usize, to: usize, delay: usize, distance: Option<usize>) -> Option<Edge>
     ensures { result ≡ edge_at from to delay distance }
 {
-    match distance {
-        Some(distance) => Some(Edge {
-            from,
-            to,
-            delay,
-            distance,
-        }),
-        None => None,
-    }
+    distance.map(|distance| Edge {
+        from,
+        to,
+        delay,
+        distance,
+    })
 }
 
 fn push_both(list: &mut Vec<Edge>, near: Edge, far: Edge)
@@ -88,33 +84,25 @@ fn push_by_distance(list: &mut Vec<Edge>, ahead: Option<Edge>, back: Option<Edge
     requires { RoomFor (by_distance ahead back) list.old }
     ensures { Appended list.old list.new (by_distance ahead back) }
 {
-    match ahead {
-        None => match back {
-            None => {}
-            Some(b) => list.push_reserved(b),
-        },
-        Some(a) => match back {
-            None => list.push_reserved(a),
-            Some(b) => {
-                if a.distance <= b.distance {
-                    push_both(list, a, b);
-                } else {
-                    push_both(list, b, a);
-                }
-            }
-        },
+    match (ahead, back) {
+        (None, None) => {}
+        (Some(edge), None) | (None, Some(edge)) => list.push_reserved(edge),
+        (Some(a), Some(b)) if a.distance <= b.distance => push_both(list, a, b),
+        (Some(a), Some(b)) => push_both(list, b, a),
     }
 }
 
-// The memory edges between lines p and q.
-pub(crate) fn push_between(list: &mut Vec<Edge>, l: &Loop, p: usize, q: usize)
-    requires order { p < q }
-    requires inside { q < l.now.count }
-    requires room { RoomFor (between (loop_seen l.now) p q) list.old }
-    ensures { Appended list.old list.new (between (loop_seen l.now) p q) }
+// The memory edges between two operations, on line p and on the later line q.
+pub(crate) fn push_between(
+    list: &mut Vec<Edge>,
+    p: usize,
+    first: &Operation,
+    q: usize,
+    second: &Operation,
+)
+    requires { RoomFor (pair p q (operation_seen first.now) (operation_seen second.now)) list.old }
+    ensures { Appended list.old list.new (pair p q (operation_seen first.now) (operation_seen second.now)) }
 {
-    let first = l.operations[p];
-    let second = l.operations[q];
     let meeting = operations_meet(first, second);
     let ahead = edge_at(p, q, delay_from(first), meeting.ahead);
     let back = edge_at(q, p, delay_from(second), meeting.back);

@@ -1,7 +1,7 @@
 use Rattle.model.specs.Edges.{each, between}
-use Rattle.dependence.specs.Loops.{loop_seen}
+use Rattle.dependence.specs.Operations.{operations_seen}
 use Rattle.edge_list.specs.Appended.{Appended}
 use Rattle.edge_list.proofs.build.push_row.Given as goal
 
 abbrev pub invariant-loop-q : goal.invariant-loop-q
-invariant-loop-q l = Appended l.initial.list l.list (each (λ q. between (loop_seen l.l) l.p q) l.q)
+invariant-loop-q l = Appended l.initial.list l.list (each (λ q. between (operations_seen l.operations) l.p q) l.q)

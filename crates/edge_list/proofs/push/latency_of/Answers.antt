@@ -1,13 +1,12 @@
 use Rattle.std.proofs.Common.{sym, ap, ◌∙◌}
 use Rattle.model.specs.Soundness.{timing_of}
 use Rattle.texts.specs.Records.{machine_seen}
-use Rattle.edge_list.proofs.Reading.{latency_at, no_latency}
+use Rattle.edge_list.proofs.Reading.{latency_at}
 use Rattle.edge_list.proofs.push.latency_of.Goals as goal
 
-pub returns-then-definer-l : goal.returns-then-definer-l
-returns-then-definer-l c = sym (no_latency c.args.l.now c.args.machine.now c.args.definer c.if-definer-l.true)
-
-pub returns : goal.returns
-returns c =
+pub returns-in-Some : goal.returns-in-Some
+returns-in-Some c =
+    let o = c.in-Some.operation.now in
+    let at = c.in-Some.ensures.lookup in
     ap (λ t. t.latency) (c.timing_of.ensures ∙ ap (timing_of (machine_seen c.args.machine.now)) c.code.ensures)
-    ∙ sym (latency_at c.args.l.now c.args.definer c.if-definer-l.false _ c.args.machine.now)
+    ∙ sym (latency_at c.args.l.now c.args.machine.now c.operations.result.now c.operations.ensures.operations c.args.definer o o at.3.0 at.1)

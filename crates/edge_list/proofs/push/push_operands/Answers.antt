@@ -15,7 +15,7 @@ returns-in-Binary c =
     let left = operand_edge hw q (operand_seen c.in-Binary.left) in
     let right = operand_edge hw q (operand_seen c.in-Binary.right) in
     let start = c.args.list.now in
-    let end = c.push_operand-in-Binary-2.new.list in
-    let both = appended_then start c.push_operand-in-Binary.new.list end left right c.push_operand-in-Binary.ensures c.push_operand-in-Binary-2.ensures in
+    let end = c.push_operand-in-Binary.new.list in
+    let both = appended_then start c.push_operand.new.list end left right c.push_operand.ensures c.push_operand-in-Binary.ensures in
     subst (λ o. Appended start end (operand_edges hw q (operands (operation_seen o)))) (sym c.in-Binary.is)
     (subst (λ r. Appended start end (left ++ r)) (sym (append-nil right)) both)
