@@ -19,7 +19,7 @@ use Rattle.search_laws.proofs.Ties.{at_class}
 use Rattle.search_laws.specs.Counts.{Added, Room, Has, over, over_in}
 
 -- a range with one number more
-range_more : (t n : ℕ) → range_with_len t (suc n) ≡ range_with_len t n ++ (t + n) ∷ []
+pub range_more : (t n : ℕ) → range_with_len t (suc n) ≡ range_with_len t n ++ (t + n) ∷ []
 range_more t zero = rw add-zero
 range_more t (suc n) = ap (λ xs. t ∷ xs) (range_more (t + 1) n ∙ ap (λ x. range_with_len (t + 1) n ++ x ∷ []) (omega arith))
 

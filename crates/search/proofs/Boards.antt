@@ -1,6 +1,6 @@
 -- Boards stay sound.
-use Rattle.std.proofs.Common.{◌≡◌, ℕ, zero, suc, ◌+◌, ◌<◌, ◌≤◌, max, Bool, true, cond, ◌&&◌, ◌||◌, eqb, List, length, get_or, Some, None, Option, unwrap_or, sym, refl, ap, ◌∙◌, subst, ap₂, subst₂, add-one, arith}
-use Rattle.std.proofs.lemmas.Bool.{and_from}
+use Rattle.std.proofs.Common.{◌≡◌, ℕ, zero, suc, ◌+◌, ◌<◌, ◌≤◌, max, Bool, true, false, cond, ◌&&◌, ◌||◌, eqb, List, length, get_or, Some, None, Option, unwrap_or, sym, refl, ap, ◌∙◌, subst, ap₂, subst₂, add-one, inl, inr, arith}
+use Rattle.std.proofs.lemmas.Bool.{and_from, cases_lt}
 use Rattle.model.specs.declared.Timing.{Timing}
 use Rattle.model.specs.Limits.{timing, hardware}
 use Rattle.model.specs.declared.Edge.{Edge}
@@ -18,10 +18,14 @@ use Rattle.reservation.specs.Times.{times_of, Replaced}
 use Rattle.reservation.specs.Views.{count, units_of, fits_of, crowds_of, Alike, Booked, Released}
 use Rattle.reservation.specs.declared.table.ReservationTable.{ReservationTable}
 use Rattle.reservation.specs.declared.time_table.TimeTable.{TimeTable}
-use Rattle.search.specs.Views.{weights_of, Fitting}
+use Rattle.search.specs.Fitting.{Fitting}
+use Rattle.search.specs.Views.{weights_of}
 use Rattle.search.specs.Weighed.{Weighed}
 use Rattle.search.specs.declared.weight_table.Weights.{Weights}
-use Rattle.search.specs.Boards.{hw_of, placed_on, Sound, state_of, LowIn}
+use Rattle.search.specs.Tables.{hw_of, Sound}
+use Rattle.search.specs.Boards.{timings_of, size, hw, placed_on, slot_on, Keeps, Same, state_of, LowIn}
+use Rattle.search.specs.declared.task.Task.{Task}
+use Rattle.search.specs.declared.board.Board.{Board}
 use Rattle.search.specs.declared.state.Progress.{Progress}
 use Rattle.search.proofs.Cells.{replaced_less, replaced_put, is_bookable, released_there, booked_there}
 
@@ -119,17 +123,66 @@ room_now us tb tb' j t fitting below roomy time time' tied same tied' gone none 
     (room_then (hw_of us tb) (length us) tb.interval time (count tb) tb.positive tb.small tied j t (fitting.class j below) time' (count tb') below roomy tb.held
     (tied_alike us tb' tb (alike_back tb tb' same) time' (count tb') tied') (held_alike us tb tb' same) gone none)
 
--- the time that an operation takes
-module _ (es : List Edge) (us : List Timing) (w : Weights) (s : Progress) (fitting : Fitting us) (weighed : Weighed es (length us) s.board.table.interval w) (sound : Sound us s.board)
-    (j : ℕ) (below : j < length us) (from : ℕ) (from_is : from ≡ early_by (weights_of w) (placed_on s.board) j (length us)) (from_small : from < 65600)
-    (last : Option ℕ) (last_is : last ≡ times_of s.last j)
-    (t : ℕ) (t_is : t ≡ unwrap_or (first (fits_of s.board.table (timing us j)) from s.board.table.interval) (fallback last from)) where
-  pub slot_of : t ≡ slot es (hw_of us s.board.table) (length us) s.board.table.interval (state_of s) j
-  slot_of =
-      t_is ∙ (ap (λ l. unwrap_or (first (fits_of s.board.table (timing us j)) from s.board.table.interval) (fallback l from)) last_is ∙
-      slot_is es (hw_of us s.board.table) (length us) s.board.table.interval (state_of s) j from _
-      (from_is ∙ early_is es (length us) s.board.table.interval w weighed fitting.few j below (placed_on s.board))
-      (window_is us s.board.table (placed_on s.board) fitting sound j below from from_small))
+-- a board that stays as it is, or changes twice
+pub same_still : (b : Board) → Same b b
+same_still b = record { task = refl; table = record { units = refl; interval = refl } }
 
-  pub slot_small : LowIn s → s.taken < 192 → t < 65536
-  slot_small low steps = slot_fits es (hw_of us s.board.table) (length us) s.board.table.interval (state_of s) j t (short_edges (length us) es weighed.fit) weighed.small steps low slot_of
+pub keeps_both : (k : Task) (t : ReservationTable) (b c : Board) → Keeps k t b → Same b c → Keeps k t c
+keeps_both k t b c f g = record { task = g.task ∙ f.task; table = alike_both t b.table c.table f.table g.table }
+
+-- the same of the operations
+pub inside_then : (b b' : Board) → Same b b' → (j : ℕ) → j < size b → j < size b'
+inside_then b b' same j h = subst (λ k. j < length k.timings.now) (sym same.task) h
+
+-- an operation that is placed is one of those
+pub placed_inside : (b : Board) (j t : ℕ) → placed_on b j ≡ Some t → j < size b
+placed_inside b j t is = elim (cases_lt j (size b)) [ inl l ↦ l | inr g ↦ absurd (both j t (sym (b.sound.beyond j g) ∙ is)) ]
+  where
+    both : (j t : ℕ) → ◌≡◌ {A = Option ℕ} None (Some t) → ⊥
+    both j t e = cc
+
+pub beyond_then : (b b' : Board) → Same b b' → (q : ℕ) → size b ≤ q → placed_on b' q ≡ None
+beyond_then b b' same q h = b'.sound.beyond q (subst (λ k. length k.timings.now ≤ q) (sym same.task) h)
+
+-- what a board needs, as it is after a change
+pub weighed_then : (b : Board) (t' : ReservationTable) → Alike b.table t' → Weighed b.task.now.edges.now (size b) t'.interval b.task.now.weights
+weighed_then b t' same = subst (λ k. Weighed b.task.now.edges.now (size b) k b.task.now.weights) (sym same.interval) b.weighed
+
+-- room for an operation where those that it crowds out are gone
+pub room_moved : (b b' : Board) (j t : ℕ) → Same b b' → j < size b →
+    ((q : ℕ) → placed_on b' q ≡ without (crowded (hw b) b.table.interval (placed_on b) (size b) j t) (placed_on b) q) → placed_on b' j ≡ None →
+    Room b'.table.interval ((hw b').class j) t ((hw b').busy j) (count b'.table) (units_of b'.table)
+room_moved b b' j t same below gone none =
+    let sound' : Sound (timings_of b) b'.table b'.time = subst (λ k. Sound k.timings.now b'.table b'.time) same.task b'.sound in
+    subst (λ k. Room b'.table.interval (timing k.timings.now j).class t (timing k.timings.now j).busy (count b'.table) (units_of b'.table)) (sym same.task)
+    (room_now (timings_of b) b.table b'.table j t b.task.now.fitting below b.alone (placed_on b) (placed_on b') b.sound same.table sound' gone none)
+
+-- the marks of torn operations say what the edges say
+pub torn_moved : (b b' : Board) (j : ℕ) (marks : List Bool) → Same b b' → j < size b →
+    ((q : ℕ) → q < size b' → get_or marks q false ≡ torn_by (weights_of b'.task.now.weights) (placed_on b') j q) →
+    (q : ℕ) → q < size b → get_or marks q false ≡ torn b.table.interval (placed_on b') j b.task.now.edges.now q
+torn_moved b b' j marks same below are q h =
+    let here : get_or marks q false ≡ torn_by (weights_of b.task.now.weights) (placed_on b') j q =
+    subst (λ k. get_or marks q false ≡ torn_by (weights_of k.weights) (placed_on b') j q) same.task (are q (inside_then b b' same q h)) in
+    here ∙ torn_is b.task.now.edges.now (size b) b.table.interval b.task.now.weights b.weighed b.task.now.fitting.few j below (placed_on b') q h
+
+-- the time that an operation takes
+module _ (s : Progress) (j : ℕ) (below : j < size s.board) (last : Option ℕ) (last_is : last ≡ times_of s.last j) (t : ℕ) (t_is : t ≡ slot_on s.board j last) where
+  abbrev b : Board
+  b = s.board
+
+  abbrev es : List Edge
+  es = b.task.now.edges.now
+
+  early_now : early_by (weights_of b.task.now.weights) (placed_on b) j (size b) ≡ early b.table.interval (placed_on b) j es
+  early_now = early_is es (size b) b.table.interval b.task.now.weights b.weighed b.task.now.fitting.few j below (placed_on b)
+
+  pub slot_of : early_by (weights_of b.task.now.weights) (placed_on b) j (size b) < 65600 → t ≡ slot es (hw b) (size b) b.table.interval (state_of s) j
+  slot_of small =
+      let from : ℕ = early_by (weights_of b.task.now.weights) (placed_on b) j (size b) in
+      t_is ∙ (ap (λ l. unwrap_or (first (fits_of b.table (timing (timings_of b) j)) from b.table.interval) (fallback l from)) last_is ∙
+      slot_is es (hw b) (size b) b.table.interval (state_of s) j from _ early_now
+      (window_is (timings_of b) b.table (placed_on b) b.task.now.fitting b.sound j below from small))
+
+  pub slot_small : early_by (weights_of b.task.now.weights) (placed_on b) j (size b) < 65600 → LowIn s → s.taken < 192 → t < 65536
+  slot_small small low steps = slot_fits es (hw b) (size b) b.table.interval (state_of s) j t (short_edges (size b) es b.weighed.fit) b.weighed.small steps low (slot_of small)

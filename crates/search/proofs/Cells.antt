@@ -1,71 +1,23 @@
 -- The search's arrays.
-use Rattle.std.proofs.Common.{◌≡◌, ℕ, ◌+◌, ◌*◌, ◌<◌, ◌≤◌, Bool, true, false, cond, not, ◌&&◌, eqb, List, [], length, get_or, take, set, replicate, Some, None, sym, refl, ap, ◌∙◌, inl, inr, arith}
+use Rattle.std.proofs.Common.{◌≡◌, ℕ, zero, suc, ◌+◌, ◌-◌, ◌<◌, ◌≤◌, max, Bool, true, false, cond, not, ◌&&◌, eqb, List, [], ◌∷◌, length, get_or, Some, None, Option, option_map, MatchOption, sym, refl, ap, ap₂, ◌∙◌, subst, inl, inr, add-zero, zero-add, add-one, arith}
+use denote.Param.Members.{Mut, Called}
+use Rattle.std.specs.Array.{IsFromFnResult, IsFromFnResultFrom}
+use Rattle.std.specs.Ordering.{ord_max, nat_cmp}
+use Rattle.std.proofs.lemmas.Bool.Decides.{nat_tests}
+use Rattle.std.specs.List.{range_with_len, find, list_all}
 use Rattle.std.proofs.lemmas.List.{get_or-set_same, get_or-set_other}
-use Rattle.std.proofs.lemmas.Bool.{cases_eq, eq-eqb, ne_eqb, and_from, and_left, and_right, lt-ltb, le-leb, both_ways}
-use Rattle.model.specs.declared.Edge.{Edge}
+use Rattle.std.proofs.lemmas.List.Folds.{list_all-append}
+use Rattle.std.proofs.lemmas.Bool.{cases_eq, cases_lt, eq-eqb, ne_eqb, and_from, lt-ltb, le-leb, both_ways}
 use Rattle.model.specs.declared.Timing.{Timing}
-use Rattle.graph_laws.proofs.Steps.{zeros}
-use Rattle.search_laws.specs.Counts.{Added, Has, Room, Less, Put}
-use Rattle.search_laws.specs.Weights.{lifted, weight}
-use Rattle.search_laws.proofs.Weights.{weight_more, weight_none}
+use Rattle.model.specs.Search.{first, all_below}
+use Rattle.search_laws.specs.Counts.{Added, Has, Room, Less, Put, Unmarked}
 use Rattle.search_laws.proofs.Crowds.{room_not_over}
+use Rattle.reservation.proofs.Cells.{range_more}
 use Rattle.reservation.specs.Cells.{bookable}
 use Rattle.reservation.specs.Times.{times_of, Replaced}
 use Rattle.reservation.specs.Views.{count, units_of, Alike, Booked, Released}
 use Rattle.reservation.specs.declared.table.ReservationTable.{ReservationTable}
 use Rattle.reservation.specs.declared.time_table.TimeTable.{TimeTable}
-
--- one more edge weighed
-module _ (k : ℕ) (es : List Edge) (i : ℕ) (d : Edge) (between : List ℕ) (h : i < length es)
-    (inv : (p q : ℕ) → p < 32 → q < 32 → get_or between (32 * p + q) 0 ≡ weight k (take i es) p q)
-    (from : (get_or es i d).from < 32) (to : (get_or es i d).to < 32) (whole : length between ≡ 1024)
-    (at : ℕ) (at_is : at ≡ 32 * (get_or es i d).from + (get_or es i d).to) where
-  abbrev e : Edge
-  e = get_or es i d
-
-  here : (p q : ℕ) → e.from ≡ p → e.to ≡ q → (eqb e.from p && eqb e.to q) ≡ true
-  here p q a b = and_from _ _ (eq-eqb _ _ a) (eq-eqb _ _ b)
-
-  elsewhere : (p q : ℕ) → p < 32 → q < 32 → (at ≡ 32 * p + q → ⊥) → (eqb e.from p && eqb e.to q) ≡ false
-  elsewhere p q hp hq n = elim (cases_eq e.from p) [
-    | inl a ↦ elim (cases_eq e.to q) [ inl b ↦ absurd (n (omega arith)) | inr b ↦ and_right _ _ (ne_eqb _ _ b) ]
-    | inr a ↦ and_left _ _ (ne_eqb _ _ a)
-  ]
-
-  pub weighed_more : (w : ℕ) → w ≡ lifted k e → get_or between (at) 0 < w → (p q : ℕ) → p < 32 → q < 32 →
-      get_or (set between (at) w) (32 * p + q) 0 ≡ weight k (take (i + 1) es) p q
-  weighed_more w is less p q hp hq = elim (cases_eq (at) (32 * p + q)) [
-    | inl z ↦
-        let a : e.from ≡ p = omega arith in
-        let b : e.to ≡ q = omega arith in
-        let one : cond (eqb e.from p && eqb e.to q) (lifted k e) 0 ≡ lifted k e = rw (here p q a b) in
-        omega (arith, ap (λ x. get_or (set between x w) (32 * p + q) 0) z, get_or-set_same between (32 * p + q) w 0 (omega arith), weight_more k es i d p q h, inv p q hp hq, ap (λ x. get_or between x 0) z)
-    | inr n ↦
-        let none : cond (eqb e.from p && eqb e.to q) (lifted k e) 0 ≡ 0 = rw (elsewhere p q hp hq n) in
-        omega (arith, get_or-set_other between (at) (32 * p + q) w 0 (λ z. n (sym z)), weight_more k es i d p q h, inv p q hp hq)
-  ]
-
-  pub weighed_same : (w : ℕ) → w ≡ lifted k e → w ≤ get_or between (at) 0 → (p q : ℕ) → p < 32 → q < 32 →
-      get_or between (32 * p + q) 0 ≡ weight k (take (i + 1) es) p q
-  weighed_same w is less p q hp hq = elim (cases_eq (at) (32 * p + q)) [
-    | inl z ↦
-        let a : e.from ≡ p = omega arith in
-        let b : e.to ≡ q = omega arith in
-        let one : cond (eqb e.from p && eqb e.to q) (lifted k e) 0 ≡ lifted k e = rw (here p q a b) in
-        omega (arith, weight_more k es i d p q h, inv p q hp hq, ap (λ x. get_or between x 0) z)
-    | inr n ↦
-        let none : cond (eqb e.from p && eqb e.to q) (lifted k e) 0 ≡ 0 = rw (elsewhere p q hp hq n) in
-        omega (arith, weight_more k es i d p q h, inv p q hp hq)
-  ]
-
-pub weighed_none : (k n p q : ℕ) → get_or (replicate n 0) (32 * p + q) 0 ≡ weight k [] p q
-weighed_none k n p q = zeros n (32 * p + q) ∙ sym (weight_none k p q)
-
-pub low_more : (between : List ℕ) (at w : ℕ) → at < length between → w ≤ 1801 → ((i : ℕ) → get_or between i 0 ≤ 1801) → (i : ℕ) → get_or (set between at w) i 0 ≤ 1801
-low_more between at w h small inv i = elim (cases_eq i at) [
-  | inl e ↦ omega (arith, ap (λ x. get_or (set between at w) x 0) e, get_or-set_same between at w 0 h)
-  | inr n ↦ omega (arith, get_or-set_other between at i w 0 n, inv i)
-]
 
 -- one entry of a time table replaced
 pub replaced_less : (j : ℕ) (before after : TimeTable) → j < 32 → Replaced j None before after → Less j (times_of before) (times_of after)
@@ -95,10 +47,61 @@ booked_there before after o t true h yes' room = (h.1, h.2)
 booked_there before after o t false h yes' room =
     absurd (both_ways _ h.0 (and_from _ _ yes' (ap not (room_not_over before.interval o.class t o.busy (count before) (units_of before) before.positive before.small room))))
 
--- one more mark
-pub marks_more : (f : ℕ → Bool) (marks : List Bool) (q : ℕ) (v : Bool) → q < length marks → v ≡ f q → ((p : ℕ) → p < q → get_or marks p false ≡ f p) →
-    (p : ℕ) → p < q + 1 → get_or (set marks q v) p false ≡ f p
-marks_more f marks q v h is inv p l = elim (cases_eq p q) [
-  | inl e ↦ rw e (get_or-set_same marks q v false h ∙ is)
-  | inr n ↦ get_or-set_other marks q p v false n ∙ inv p (omega arith)
+-- what a closure that changes nothing gave at each number
+module _ {F : Type 0} (g : Mut F (ℕ × Unit {0}) Bool) (f : F) (n : ℕ) (test : ℕ → Bool) (each : (x : ℕ) (y : Bool) (q : F) → Called g f (x, tt) y q → (q ≡ f) × (x < n → y ≡ test x)) (ys : List Bool) where
+  made_from : (m i : ℕ) → IsFromFnResultFrom g f ys i m → (k : ℕ) → k < m → i + k < n → get_or ys (i + k) false ≡ test (i + k)
+  made_from zero i made k l h = absurd (omega arith)
+  made_from (suc m) i made k l h =
+      let one = each i made.1 made.0 made.3 in
+      elim (cases_eq k 0) [
+        | inl e ↦ rw (e, add-zero) (made.2.1 false ∙ one.1 (omega arith))
+        | inr z ↦
+            let at : i + k ≡ (i + 1) + (k - 1) = omega arith in
+            rw at (made_from m (i + 1) (subst (λ x. IsFromFnResultFrom g x ys (i + 1) m) one.0 made.4) (k - 1) (omega arith) (omega arith))
+      ]
+
+  pub made_at : (m : ℕ) → n ≤ m → IsFromFnResult g f ys m → (q : ℕ) → q < n → get_or ys q false ≡ test q
+  made_at m few made q h =
+      let here : 0 + q ≡ q = omega arith in
+      rw here at (made_from m 0 made.each q (omega arith) (omega arith))
+
+-- the first of so many numbers
+pub found_first : (p : ℕ → Bool) (m t : ℕ) → find p (range_with_len t m) ≡ first p t m
+found_first p zero t = refl
+found_first p (suc m) t = ap (cond (p t) (Some t)) (found_first p m (t + 1) ∙ ap (λ x. first p x m) (add-one t))
+
+-- each of so many numbers
+pub all_numbers : (p : ℕ → Bool) (n : ℕ) → list_all p (range_with_len 0 n) ≡ all_below p n
+all_numbers p zero = refl
+all_numbers p (suc n) =
+    ap (list_all p) (range_more 0 n) ∙ (list_all-append p (range_with_len 0 n) ((0 + n) ∷ []) ∙
+    (ap₂ (λ x y. x && (p y && true)) (all_numbers p n) (zero-add n) ∙ turned (all_below p n) (p n)))
+  where
+    turned : (a b : Bool) → (a && (b && true)) ≡ (b && a)
+    turned true true = refl
+    turned true false = refl
+    turned false true = refl
+    turned false false = refl
+
+-- marks of operations that are not placed change nothing
+none_either : (b : Bool) (o : Option ℕ) → o ≡ None → cond b None o ≡ None
+none_either true o e = refl
+none_either false o e = e
+
+pub unmarked_fewer : (marks : List Bool) (n m : ℕ) (before now : ℕ → Option ℕ) → n ≤ m → ((q : ℕ) → n ≤ q → before q ≡ None) → Unmarked marks m before now → Unmarked marks n before now
+unmarked_fewer marks n m before now few beyond is q = elim (cases_lt q n) [
+  | inl l ↦ is q ∙ ap (λ b. cond (b && get_or marks q false) None (before q)) (lt-ltb q m (omega arith) ∙ sym (lt-ltb q n l))
+  | inr g ↦ is q ∙ (none_either _ _ (beyond q g) ∙ sym (none_either _ _ (beyond q g)))
 ]
+
+pub greater_is : (a b : ℕ) → ord_max nat_cmp a b ≡ max a b
+greater_is a b = grind (arith, nat_tests)
+
+-- what a call gave for an option, by cases
+pub by_option : {A : Type 0} (o : Option A) (N G : Type 0) (P : A → Type 0) → MatchOption o N P → (o ≡ None → N → G) → ((x : A) → o ≡ Some x → P x → G) → G
+by_option None N G P h none some = none refl h
+by_option (Some x) N G P h none some = some x refl h
+
+pub same_mapped : (o : Option ℕ) → option_map (λ x. x) o ≡ o
+same_mapped None = refl
+same_mapped (Some x) = refl

@@ -1,3 +1,4 @@
+pub mod Entries
 pub mod Cells
 pub mod Boards
 pub mod Runs

@@ -8,36 +8,31 @@ use Rattle.model.specs.declared.Edge.{Edge}
 use Rattle.model.specs.declared.Timing.{Timing}
 use Rattle.model.specs.Loop.{Hardware}
 use Rattle.model.specs.Limits.{timing, hardware, EdgeFits, MachineFits}
-use Rattle.model.specs.Search.{State, step}
+use Rattle.model.specs.Search.{State, step, complete}
 use Rattle.graph_laws.proofs.Top.{timing_at, units_at}
 use Rattle.search_laws.specs.Counts.{Low}
-use Rattle.search_laws.specs.Weights.{weight}
 use Rattle.search_laws.proofs.Steps.{Going, going_low}
 use Rattle.reservation.specs.Views.{Alike, Possible}
 use Rattle.reservation.specs.declared.table.ReservationTable.{ReservationTable}
-use Rattle.search.specs.Views.{weights_of, Fitting}
-use Rattle.search.specs.Weighed.{Weighed}
-use Rattle.search.specs.Boards.{hw_of, state_of, LowIn}
+use Rattle.search.specs.Fitting.{Fitting}
+use Rattle.search.specs.Tables.{hw_of}
+use Rattle.search.specs.Boards.{timings_of, size, height, Keeps, state_of, step_on, LowIn}
+use Rattle.search.specs.declared.task.Task.{Task}
+use Rattle.search.specs.declared.board.Board.{Board}
 use Rattle.search.specs.declared.state.Progress.{Progress}
-use Rattle.search.specs.declared.weight_table.Weights.{Weights}
 
--- a step at the table as it is now is one at the table as it was
-pub step_back : (es : List Edge) (us : List Timing) (n : ℕ) (height : ℕ → ℕ) (t t' : ReservationTable) (s s' : State) → Alike t t' → s' ≡ step es (hw_of us t') n height t'.interval s →
-    s' ≡ step es (hw_of us t) n height t.interval s
-step_back es us n height t t' s s' same is = is ∙ ap₂ (λ u k. step es (hardware us u) n height k s) same.units same.interval
+-- a step on a board is one by its task and table, and so is its end
+pub step_back : (k : Task) (t : ReservationTable) (b : Board) → Keeps k t b → (s : State) → step_on b s ≡ step k.edges.now (hw_of k.timings.now t) (length k.timings.now) (height k) t.interval s
+step_back k t b same s =
+    ap₂ (λ u x. step b.task.now.edges.now (hardware (timings_of b) u) (size b) (height b.task.now) x s) same.table.units same.table.interval ∙
+    ap (λ x. step x.edges.now (hardware x.timings.now t.units) (length x.timings.now) (height x) t.interval s) same.task
 
-pub weighed_now : (es : List Edge) (n k : ℕ) (t t' : ReservationTable) (w : Weights) → AllByRecursion (EdgeFits n) es → Alike t t' → k ≡ t.interval →
-    ((p q : ℕ) → p < 32 → q < 32 → weights_of w p q ≡ weight k es p q) → Weighed es n t'.interval w
-weighed_now es n k t t' w fit same is are = record {
-  fit = fit;
-  small = t'.small;
-  are = λ p q hp hq. are p q hp hq ∙ ap (λ x. weight x es p q) (is ∙ sym same.interval);
-}
+pub complete_back : (k : Task) (t : ReservationTable) (b : Board) → Keeps k t b → (s : State) → complete (size b) s ≡ complete (length k.timings.now) s
+complete_back k t b same s = ap (λ x. complete (length x.timings.now) s) same.task
 
-pub low_now : (es : List Edge) (hw : Hardware) (n : ℕ) (height : ℕ → ℕ) (t : ReservationTable) (s : Progress) (left : ℕ) → Alike t s.board.table →
-    Going es hw n height t.interval (state_of s) left → LowIn s
-low_now es hw n height t s left same going =
-    subst (Low (state_of s).time (state_of s).last (state_of s).taken) (sym same.interval) (going_low es hw n height t.interval (state_of s) left going)
+pub low_now : (k : Task) (t : ReservationTable) (s : Progress) (left : ℕ) → Keeps k t s.board → Going k.edges.now (hw_of k.timings.now t) (length k.timings.now) (height k) t.interval (state_of s) left → LowIn s
+low_now k t s left same going =
+    subst (Low (state_of s).time (state_of s).last (state_of s).taken) (sym same.table.interval) (going_low k.edges.now (hw_of k.timings.now t) (length k.timings.now) (height k) t.interval (state_of s) left going)
 
 -- what the limits give
 pub fitting_from : (us : List Timing) (units : List ℕ) → length us ≤ 32 → MachineFits us units → Fitting us

@@ -1,5 +1,5 @@
 -- What the search answers.
-use Rattle.std.specs.Prelude.{◌≡◌, ℕ, ◌*◌, ◌<◌, ◌≤◌, List, length, Ok, Err, Result}
+use Rattle.std.specs.Prelude.{◌≡◌, ℕ, ◌*◌, ◌<◌, ◌≤◌, List, length, Some, None, Option, Ok, Err, Result}
 use Rattle.std.specs.Option.{unwrap_or}
 use Rattle.model.specs.declared.Edge.{Edge}
 use Rattle.model.specs.declared.Timing.{Timing}
@@ -9,14 +9,17 @@ use Rattle.model.specs.Minimum.{IsHeight}
 use Rattle.model.specs.Search as model
 use Rattle.search_laws.specs.Bounded.{Roomy}
 use Rattle.reservation.specs.Times.{times_of}
+use Rattle.reservation.specs.declared.time_table.TimeTable.{TimeTable}
 use Rattle.search.specs.declared.outcome.Outcome.{Outcome}
-use Rattle.search.specs.declared.outcome.Outcome.TheVariants.{Found, Failed}
 use Rattle.search.specs.declared.outcome.NoSearch.{NoSearch}
 use Rattle.search.specs.declared.outcome.NoSearch.TheVariants.{Outside, Above, Narrow}
 
+abbrev pub ended : Option TimeTable → ℕ → model.Outcome
+ended (Some times) steps = model.found (λ j. unwrap_or (times_of times j) 0) steps
+ended None steps = model.failed steps
+
 abbrev pub outcome : Outcome → model.Outcome
-outcome (Found times steps) = model.found (λ j. unwrap_or (times_of times j) 0) steps
-outcome (Failed steps) = model.failed steps
+outcome o = ended o.times o.steps
 
 -- What may be handed in.
 pub record Inside (es : List Edge) (us : List Timing) (units : List ℕ) (k : ℕ) : Type 0 where

@@ -1,14 +1,7 @@
--- The search's arrays as functions.
-use Rattle.std.specs.Prelude.{ℕ, ◌+◌, ◌*◌, ◌<◌, ◌≤◌, List, length, slice_index}
-use Rattle.model.specs.declared.Timing.{Timing}
-use Rattle.model.specs.Limits.{timing}
+-- The weights as a function, 0 where there is no edge.
+use Rattle.std.specs.Prelude.{ℕ, [], None, slice_index_or}
+use Rattle.std.specs.Option.{unwrap_or}
 use Rattle.search.specs.declared.weight_table.Weights.{Weights}
 
 abbrev pub weights_of : Weights → ℕ → ℕ → ℕ
-weights_of w p q = slice_index w.between (32 * p + q)
-
--- At most 32 operations, each of one of eight classes and busy for at most eight cycles.
-pub record Fitting (us : List Timing) : Type 0 where
-  pub few : length us ≤ 32
-  pub class : (j : ℕ) → j < length us → (timing us j).class < 8
-  pub busy : (j : ℕ) → j < length us → (timing us j).busy ≤ 8
+weights_of w p q = unwrap_or (slice_index_or (slice_index_or w.between p []) q None) 0

@@ -2,12 +2,15 @@
 #![tactic(auto)]
 
 mod board;
+mod crowds;
+mod moves;
 mod outcome;
 mod pick;
 mod run;
 mod slot;
 mod state;
 mod step;
+mod task;
 mod weight_table;
 mod weights;
 

@@ -1,54 +1,53 @@
 // The search at an interval.
-ghost use Rattle.std.specs.Prelude.{◌≡◌, ℕ, ◌+◌, ◌*◌, ◌<◌, ◌≤◌, true, false, length, Decides, slice_index};
-ghost use Rattle.std.specs.List.{AllByRecursion};
-ghost use Rattle.model.specs.Limits.{hardware, EdgeFits, MachineFits};
+ghost use Rattle.std.specs.Prelude.{◌≡◌, ℕ, ◌<◌, ◌≤◌, length, Decides};
+ghost use Rattle.model.specs.Limits.{hardware, MachineFits};
 ghost use Rattle.model.specs.Search.{search};
 ghost use Rattle.search_laws.specs.Bounded.{Roomy};
 ghost use Rattle.reservation.specs.Views.{count};
-ghost use Rattle.search.specs.Views.{Fitting};
-ghost use Rattle.search.specs.Boards.{hw_of};
+ghost use Rattle.search.specs.Tables.{hw_of, AloneFits};
+ghost use Rattle.search.specs.Weighed.{Weighed};
+ghost use Rattle.search.specs.Boards.{height};
 ghost use Rattle.search.specs.Answers.{outcome, SearchOf};
 
 use crate::board::Board;
 use crate::outcome::{NoSearch, Outcome};
 use crate::state::Progress;
+use crate::task::Task;
 use crate::weight_table::Weights;
-use bounds::{NoHeights, heights, machine_fits};
+use bounds::{heights, machine_fits};
 use model::{Edge, Timing};
 use reservation::{ReservationTable, TimeTable};
 
 // The search from a fresh table: at most six steps for each operation.
-fn run(
-    edges: &[Edge],
-    timings: &[Timing],
-    heights: &[usize; 32],
-    table: ReservationTable,
-) -> Outcome
-    requires fitting { Fitting timings.now }
-    requires fit { AllByRecursion (EdgeFits (length timings.now)) edges.now }
-    requires alone { Roomy (hw_of timings.now table) (length timings.now) table.interval }
+fn run(task: &Task, table: ReservationTable) -> Outcome
+    requires alone { AloneFits task.now.timings.now table }
+    requires weighed { Weighed task.now.edges.now (length task.now.timings.now) table.interval task.now.weights }
     requires empty { (u r : ℕ) → u < 8 → r < 256 → count table u r ≡ 0 }
-    ensures { outcome result ≡ search edges.now (hw_of timings.now table) (length timings.now) (λ j. slice_index heights.now j) table.interval }
+    ensures { outcome result ≡ search task.now.edges.now (hw_of task.now.timings.now table) (length task.now.timings.now) (height task.now) table.interval }
 {
-    let weights = Weights::new(edges, table.interval());
     let mut progress = Progress {
         board: Board {
+            task,
             time: TimeTable::empty(),
             table,
         },
         last: TimeTable::empty(),
         taken: 0,
     };
-    let budget = 6 * timings.len();
-    let mut left = budget;
-    while left > 0 {
-        progress.step(timings, &weights, heights);
-        if progress.complete(timings.len()) {
-            return Outcome::Found(progress.board.time, progress.taken);
+    let budget = 6 * task.timings.len();
+    for _ in 0..budget {
+        progress.step();
+        if progress.is_complete() {
+            return Outcome {
+                times: Some(progress.board.time),
+                steps: progress.taken,
+            };
         }
-        left -= 1;
     }
-    Outcome::Failed(budget)
+    Outcome {
+        times: None,
+        steps: budget,
+    }
 }
 
 // Each operation alone has no more uses in a row than its class has units.
@@ -57,8 +56,7 @@ fn alone_fit(timings: &[Timing], units: &[usize], interval: usize) -> bool
     requires interval { interval ≤ 256 }
     ensures { Decides result (Roomy (hardware timings.now units.now) (length timings.now) interval) }
 {
-    for j in 0..timings.len() {
-        let timing = timings[j];
+    for timing in timings {
         if timing.busy > interval * units[timing.class] {
             return false;
         }
@@ -78,17 +76,16 @@ pub fn search(
     if !machine_fits(timings, units) {
         return Err(NoSearch::Outside);
     }
-    let Some(table) = ReservationTable::new(units, interval) else {
-        return Err(NoSearch::Outside);
-    };
-    match heights(edges, timings.len(), interval) {
-        Err(NoHeights::Outside) => Err(NoSearch::Outside),
-        Err(NoHeights::Above) => Err(NoSearch::Above),
-        Ok(heights) => {
-            if !alone_fit(timings, units, interval) {
-                return Err(NoSearch::Narrow);
-            }
-            Ok(run(edges, timings, &heights, table))
-        }
+    let table = ReservationTable::new(units, interval).ok_or(NoSearch::Outside)?;
+    let heights = heights(edges, timings.len(), interval)?;
+    if !alone_fit(timings, units, interval) {
+        return Err(NoSearch::Narrow);
     }
+    let task = Task {
+        edges,
+        timings,
+        heights,
+        weights: Weights::new(edges, interval),
+    };
+    Ok(run(&task, table))
 }

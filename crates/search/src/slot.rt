@@ -2,141 +2,112 @@
 ghost use Rattle.std.specs.Prelude.{◌≡◌, ℕ, ◌+◌, ◌-◌, ◌*◌, ◌<◌, ◌≤◌, Bool, true, false, if◌then◌else◌, Some, None, nat_eq, slice_index_or};
 ghost use Rattle.std.specs.Option.{unwrap_or};
 ghost use Rattle.model.specs.Search.{first, fallback};
-ghost use Rattle.search_laws.specs.Bounded.{Under};
-ghost use Rattle.search_laws.specs.Weights.{asked, unmet, early_by, torn_by};
-ghost use Rattle.reservation.specs.Times.{times_of};
+ghost use Rattle.search_laws.specs.Weights.{asked, unmet, torn_by};
 ghost use Rattle.reservation.specs.Views.{fits_of};
 ghost use Rattle.search.specs.Views.{weights_of};
+ghost use Rattle.search.specs.Boards.{size, placed_on, early_on, slot_on};
 
-use crate::weight_table::Weights;
+use crate::board::Board;
 use crate::weights::LIFT;
 use model::Timing;
-use reservation::{ReservationTable, TimeTable};
+use reservation::ReservationTable;
+use std::array;
 
 // What the edges of a weight from an operation at this time ask of the early time.
-fn asked(weight: usize, time: Option<u16>) -> usize
-    requires { weight ≤ 1801 }
-    ensures value { result ≡ asked weight time }
+fn asked(weight: Option<usize>, time: Option<u16>) -> usize
+    requires low { (w : ℕ) → weight ≡ Some w → w ≤ 1801 }
+    requires raised { (w : ℕ) → weight ≡ Some w → 1 ≤ w }
+    ensures value { result ≡ asked (unwrap_or weight 0) time }
     ensures small { result < 65600 }
 {
-    match time {
-        None => 0,
-        Some(t) => {
-            if weight == 0 {
-                0
-            } else {
-                (t as usize + weight).saturating_sub(LIFT)
-            }
-        }
+    match (weight, time) {
+        (Some(weight), Some(time)) => (usize::from(time) + weight).saturating_sub(LIFT),
+        _ => 0,
     }
-}
-
-// What the edges from operation q ask of the early time of another.
-fn asked_by(weights: &Weights, times: &TimeTable, q: usize, op: usize) -> usize
-    requires { (q < 32) × (op < 32) }
-    ensures value { result ≡ (if nat_eq q op then 0 else asked (weights_of weights.now q op) (times_of times.now q)) }
-    ensures small { result < 65600 }
-{
-    if q == op {
-        return 0;
-    }
-    asked(weights.at(q, op), times.at(q))
-}
-
-// The early time of an operation.
-pub(crate) fn early(weights: &Weights, times: &TimeTable, count: usize, op: usize) -> usize
-    requires { (count ≤ 32) × (op < 32) }
-    ensures value { result ≡ early_by (weights_of weights.now) (times_of times.now) op count }
-    ensures small { result < 65600 }
-{
-    let mut early = 0;
-    for q in 0..count {
-        let at = asked_by(weights, times, q, op);
-        if at > early {
-            early = at;
-        }
-    }
-    early
 }
 
 // The first time of the window at which an operation fits beside those placed.
 fn window(table: &ReservationTable, timing: Timing, from: usize) -> Option<usize>
     requires { from < 65600 }
-    ensures value { result ≡ first (fits_of table.now timing) from table.now.interval }
-    ensures small { Under 66000 result }
+    ensures { result ≡ first (fits_of table.now timing) from table.now.interval }
 {
-    for time in from..from + table.interval() {
-        if table.fits(timing, time) {
-            return Some(time);
-        }
-    }
-    None
+    (from..from + table.interval()).find(|time| table.fits(timing, *time))
 }
 
 // Where the window has no room: early, or after the last time.
 fn forced(last: Option<u16>, early: usize) -> usize
     requires { early < 65600 }
-    ensures value { result ≡ fallback last early }
-    ensures small { result < 66000 }
+    ensures { result ≡ fallback last early }
 {
-    match last {
-        None => early,
-        Some(l) => {
-            if (l as usize) < early {
-                early
-            } else {
-                l as usize + 1
-            }
-        }
-    }
-}
-
-// The time that an operation takes in the window from its early time, or beyond it.
-pub(crate) fn slot(
-    table: &ReservationTable,
-    timing: Timing,
-    last: Option<u16>,
-    early: usize,
-) -> usize
-    requires { early < 65600 }
-    ensures value { result ≡ unwrap_or (first (fits_of table.now timing) early table.now.interval) (fallback last early) }
-    ensures small { result < 66000 }
-{
-    match window(table, timing, early) {
-        None => forced(last, early),
-        Some(time) => time,
-    }
+    last.map_or(early, |last| early.max(usize::from(last) + 1))
 }
 
 // An edge of a weight between placed operations is not met.
-fn unmet(weight: usize, from: Option<u16>, to: Option<u16>) -> bool
-    requires { weight ≤ 1801 }
-    ensures { result ≡ unmet weight from to }
+fn unmet(weight: Option<usize>, from: Option<u16>, to: Option<u16>) -> bool
+    requires low { (w : ℕ) → weight ≡ Some w → w ≤ 1801 }
+    requires raised { (w : ℕ) → weight ≡ Some w → 1 ≤ w }
+    ensures { result ≡ unmet (unwrap_or weight 0) from to }
 {
-    match (from, to) {
-        (Some(s), Some(t)) => weight > 0 && t as usize + LIFT < s as usize + weight,
+    match (weight, from, to) {
+        (Some(weight), Some(from), Some(to)) => {
+            usize::from(to) + LIFT < usize::from(from) + weight
+        }
         _ => false,
     }
 }
 
-// Operation q is the far end of an edge of another that is not met.
-fn is_torn(weights: &Weights, times: &TimeTable, op: usize, q: usize) -> bool
-    requires { (op < 32) × (q < 32) }
-    ensures { result ≡ torn_by (weights_of weights.now) (times_of times.now) op q }
-{
-    let here = times.at(op);
-    let there = times.at(q);
-    unmet(weights.at(op, q), here, there) || unmet(weights.at(q, op), there, here)
-}
-
-// The far ends of an operation's edges that are not met.
-pub(crate) fn torn(weights: &Weights, times: &TimeTable, count: usize, op: usize) -> [bool; 32]
-    requires { (count ≤ 32) × (op < 32) }
-    ensures { (q : ℕ) → q < count → slice_index_or result q false ≡ torn_by (weights_of weights.now) (times_of times.now) op q }
-{
-    let mut marks = [false; 32];
-    for q in 0..count {
-        marks[q] = is_torn(weights, times, op, q);
+impl Board<'_> {
+    // What the edges from operation q ask of the early time of another.
+    fn asked_by(&self, q: usize, op: usize) -> usize
+        requires { (q < 32) × (op < 32) }
+        ensures value { result ≡ (if nat_eq q op then 0 else asked (weights_of self.now.task.now.weights q op) (placed_on self.now q)) }
+        ensures small { result < 65600 }
+    {
+        if q == op {
+            return 0;
+        }
+        asked(self.task.weights.at(q, op), self.time.at(q))
     }
-    marks
+
+    // The early time of an operation.
+    fn early(&self, op: usize) -> usize
+        requires { op < 32 }
+        ensures value { result ≡ early_on self.now op }
+        ensures small { result < 65600 }
+    {
+        let mut early = 0;
+        for q in 0..self.task.timings.len() {
+            early = early.max(self.asked_by(q, op));
+        }
+        early
+    }
+
+    // The time that an operation takes in the window from its early time, or beyond it.
+    pub(crate) fn slot(&self, op: usize, last: Option<u16>) -> usize
+        requires { op < size self.now }
+        ensures value { result ≡ slot_on self.now op last }
+        ensures early { early_on self.now op < 65600 }
+    {
+        let early = self.early(op);
+        window(&self.table, self.task.timings[op], early).unwrap_or_else(|| forced(last, early))
+    }
+
+    // Operation q is the far end of an edge of another that is not met.
+    fn is_torn(&self, op: usize, q: usize) -> bool
+        requires { (op < 32) × (q < 32) }
+        ensures { result ≡ torn_by (weights_of self.now.task.now.weights) (placed_on self.now) op q }
+    {
+        let here = self.time.at(op);
+        let there = self.time.at(q);
+        let weights = &self.task.weights;
+        unmet(weights.at(op, q), here, there) || unmet(weights.at(q, op), there, here)
+    }
+
+    // The far ends of an operation's edges that are not met.
+    pub(crate) fn torn(&self, op: usize) -> [bool; 32]
+        requires { op < 32 }
+        ensures { (q : ℕ) → q < size self.now → slice_index_or result q false ≡ torn_by (weights_of self.now.task.now.weights) (placed_on self.now) op q }
+    {
+        array::from_fn(|q| q < self.task.timings.len() && self.is_torn(op, q))
+    }
 }

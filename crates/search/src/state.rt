@@ -3,8 +3,8 @@ use crate::board::Board;
 use reservation::TimeTable;
 
 #[derive(Clone, Copy)]
-pub struct Progress {
-    pub(crate) board: Board,
+pub struct Progress<'a> {
+    pub(crate) board: Board<'a>,
     pub(crate) last: TimeTable,
     pub(crate) taken: usize,
 }

@@ -1,15 +1,13 @@
-use Rattle.std.proofs.Common.{◌+◌, ◌-◌, arith}
-use Rattle.search_laws.proofs.Steps.{first_hit, first_miss, first_end}
+use Rattle.std.proofs.Common.{sym, refl, ◌∙◌, arith, rules, tests}
+use Rattle.std.proofs.lemmas.Iterator.{YieldsList-from_range}
+use Rattle.std.proofs.lemmas.Iterator.Search.{find_from_yields_List}
+use Rattle.reservation.specs.Views.{fits_of}
+use Rattle.search.proofs.Cells.{found_first, same_mapped}
 use Rattle.search.proofs.slot.window.Goals as goal
 
-pub returns-then-fits : goal.returns-then-fits
-returns-then-fits c = record {
-  value = first_hit _ _ (c.args.from + c.args.table.now.interval - c.loop-time.time) _ c.loop-time.invariant c.if-fits.ensures (omega arith);
-  small = omega arith;
-}
-
-pub loop-time-preserved : goal.loop-time-preserved
-loop-time-preserved c = first_miss _ _ (c.args.from + c.args.table.now.interval - c.loop-time.time) _ _ c.loop-time.invariant c.if-fits.ensures (omega arith) (omega arith)
-
 pub returns : goal.returns
-returns c = record { value = first_end _ _ (c.args.from + c.args.table.now.interval - c.loop-time.time) _ c.loop-time.invariant (omega arith); small = tt }
+returns c =
+    let t = c.args.table.now in
+    sym (same_mapped c.find.result) ∙
+    (find_from_yields_List (fits_of t c.args.timing) _ _ c.find.result c.find.ensures.ran (YieldsList-from_range c.args.from _ t.interval refl (omega arith)) (λ x b q k. search (rules, tests)) ∙
+    found_first (fits_of t c.args.timing) t.interval c.args.from)

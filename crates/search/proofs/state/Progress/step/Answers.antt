@@ -1,45 +1,27 @@
-use Rattle.std.proofs.Common.{length, get_or, refl, arith}
-use Rattle.search.specs.Boards.{hw_of, placed_on, state_of}
+use Rattle.std.proofs.Common.{arith}
+use Rattle.search.specs.Boards.{size, hw, height, placed_on, state_of}
 use Rattle.search_laws.proofs.Steps.{pick_free, step_some, step_none}
 use Rattle.search.proofs.Boards.{slot_of, slot_small}
 use Rattle.search.proofs.state.Progress.step.Goals as goal
 
 pub overflow_cast-time : goal.overflow_cast-time
 overflow_cast-time c =
-    let it = slot_small c.requires.weighed.0 c.args.timings.now c.args.weights.now c.args.self.now c.requires.fitting c.requires.weighed.1 c.requires.sound c.in-Some.op c.in-Some.ensures.below
-    c.early-from.result c.early-from.ensures.value c.early-from.ensures.small c.at.result c.at.ensures c.slot-time.result c.slot-time.ensures.value c.requires.low c.requires.steps in
+    let it = slot_small c.args.self.now c.in-Some.op c.in-Some.ensures.below c.at-last.result c.at-last.ensures c.slot-time.result c.slot-time.ensures.value c.slot-time.ensures.early c.requires.low c.requires.steps in
     omega arith
 
-pub place-requires : goal.place-requires
-place-requires c = record {
-  inside = c.in-Some.ensures.below;
-  fitting = c.requires.fitting;
-  sound = c.requires.sound;
-  alone = c.requires.alone;
-  free = pick_free (λ j. get_or c.args.heights.now j 0) (placed_on c.args.self.now.board) (length c.args.timings.now) c.in-Some.op c.pick.result c.pick.ensures.picked c.in-Some.is;
-  steps = omega arith;
-}
+pub place-requires-clause-free : goal.place-requires-clause-free
+place-requires-clause-free c =
+    let b = c.args.self.now.board in
+    pick_free (height b.task.now) (placed_on b) (size b) c.in-Some.op c.pick.result c.pick.ensures.picked c.in-Some.is
 
-pub returns-in-Some : goal.returns-in-Some
-returns-in-Some c =
-    let us = c.args.timings.now in
+pub returns-in-Some-clause-state : goal.returns-in-Some-clause-state
+returns-in-Some-clause-state c =
     let s = c.args.self.now in
-    record {
-      state = λ es weighed. step_some es (hw_of us s.board.table) (length us) s.board.table.interval (λ j. get_or c.args.heights.now j 0) (state_of s) _ c.pick.result c.in-Some.op c.slot-time.result
-          c.pick.ensures.picked c.in-Some.is
-          (slot_of es us c.args.weights.now s c.requires.fitting weighed c.requires.sound c.in-Some.op c.in-Some.ensures.below
-          c.early-from.result c.early-from.ensures.value c.early-from.ensures.small c.at.result c.at.ensures c.slot-time.result c.slot-time.ensures.value)
-          (c.place.ensures.state es weighed);
-      sound = c.place.ensures.sound;
-      alike = c.place.ensures.alike;
-    }
+    let b = s.board in
+    step_some b.task.now.edges.now (hw b) (size b) b.table.interval (height b.task.now) (state_of s) _ c.pick.result c.in-Some.op c.slot-time.result c.pick.ensures.picked c.in-Some.is
+    (slot_of s c.in-Some.op c.in-Some.ensures.below c.at-last.result c.at-last.ensures c.slot-time.result c.slot-time.ensures.value c.slot-time.ensures.early) c.place.ensures.state
 
-pub returns-in_default : goal.returns-in_default
-returns-in_default c =
-    let us = c.args.timings.now in
-    let s = c.args.self.now in
-    record {
-      state = λ es weighed. step_none es (hw_of us s.board.table) (length us) s.board.table.interval (λ j. get_or c.args.heights.now j 0) (state_of s) c.pick.result c.pick.ensures.picked c.in_default.is;
-      sound = c.requires.sound;
-      alike = record { units = refl; interval = refl };
-    }
+pub returns-in_default-clause-state : goal.returns-in_default-clause-state
+returns-in_default-clause-state c =
+    let b = c.args.self.now.board in
+    step_none b.task.now.edges.now (hw b) (size b) b.table.interval (height b.task.now) (state_of c.args.self.now) c.pick.result c.pick.ensures.picked c.in_default.is

@@ -1,6 +1,6 @@
 use Rattle.search_laws.proofs.Steps.{pick_none, pick_step_placed, pick_step_open}
-use Rattle.search.proofs.pick.pick.Goals as goal
-use Rattle.search.proofs.pick.pick.Goals.{then-is_none, else-is_none}
+use Rattle.search.proofs.board.Board.pick.Goals as goal
+use Rattle.search.proofs.board.Board.pick.Goals.{then-is_none, else-is_none}
 
 pub loop-op-init : goal.loop-op-init
 loop-op-init c = (pick_none _ _, tt)
