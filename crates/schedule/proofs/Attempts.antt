@@ -17,9 +17,8 @@ use Rattle.schedule_laws.proofs.Readiness.{positive, whole_short, roomy, none_ab
 use Rattle.schedule_laws.proofs.Rest.{RestFound, search_rest}
 use Rattle.reservation.specs.Times.{times_of}
 use Rattle.reservation.specs.declared.time_table.TimeTable.{TimeTable}
-use Rattle.search.specs.Answers.{outcome, Inside, SearchOf}
+use Rattle.search.specs.Answers.{ended, outcome, Inside, SearchOf}
 use Rattle.search.specs.declared.outcome.Outcome.{Outcome as OwnOutcome}
-use Rattle.search.specs.declared.outcome.Outcome.TheVariants.{Found, Failed}
 use Rattle.search.specs.declared.outcome.NoSearch.{NoSearch}
 use Rattle.search.specs.declared.outcome.NoSearch.TheVariants.{Outside, Above, Narrow}
 use Rattle.registers.specs.Fits.{Fitted}
@@ -48,9 +47,9 @@ module _ (ops : Loop) (es : List Edge) (us : List Timing) (units : List ℕ) (k 
   search_is o h = h.2.is ∙ by_heights ops es us units k ready h.2.height h.2.heights
 
   -- the times found, as the code holds them
-  pub found_is : (t : TimeTable) (steps : ℕ) (xs : List ℕ) (o : OwnOutcome) → SearchOf es us units k (Ok o) → o ≡ Found t steps → ((j : ℕ) → get_or xs j 0 ≡ unwrap_or (times_of t j) 0) →
-      found (scheduled k xs).time steps ≡ searched ops es us units k
-  found_is t steps xs o h e are = ap (λ f. found f steps) (fun_ext are) ∙ (sym (ap outcome e) ∙ search_is o h)
+  pub found_is : (t : TimeTable) (xs : List ℕ) (o : OwnOutcome) → SearchOf es us units k (Ok o) → o.times ≡ Some t → ((j : ℕ) → get_or xs j 0 ≡ unwrap_or (times_of t j) 0) →
+      found (scheduled k xs).time o.steps ≡ searched ops es us units k
+  found_is t xs o h e are = ap (λ f. found f o.steps) (fun_ext are) ∙ (sym (ap (λ x. ended x o.steps) e) ∙ search_is o h)
 
   pub room_for : (xs : List ℕ) (n : ℕ) → n ≡ stages (scheduled k xs) (length ops) → n ≤ 8 → Limits (lives_table ops (hardware us []) (scheduled k xs))
   room_for xs n e few = lives_limits ops es us units k ready (λ j. get_or xs j 0) small (omega arith)
@@ -65,9 +64,9 @@ module _ (ops : Loop) (es : List Edge) (us : List Timing) (units : List ℕ) (k 
       same = same;
     }
 
-    pub when_failed : (steps : ℕ) (o : OwnOutcome) → SearchOf es us units k (Ok o) → o ≡ Failed steps → DidNot meaning ops es us units k before before steps
-    when_failed steps o h e =
-        not_taken before steps (failed steps) (sym (ap outcome e) ∙ search_is o h) refl (fails_failed ops (hardware us units) (meaning before).need (meaning before).file k steps) refl
+    pub when_failed : (o : OwnOutcome) → SearchOf es us units k (Ok o) → o.times ≡ None → DidNot meaning ops es us units k before before o.steps
+    when_failed o h e =
+        not_taken before o.steps (failed o.steps) (sym (ap (λ x. ended x o.steps) e) ∙ search_is o h) refl (fails_failed ops (hardware us units) (meaning before).need (meaning before).file k o.steps) refl
 
     pub when_deep : (steps : ℕ) (xs : List ℕ) (n : ℕ) → found (scheduled k xs).time steps ≡ searched ops es us units k → n ≡ stages (scheduled k xs) (length ops) → 8 < n →
         DidNot meaning ops es us units k before before steps

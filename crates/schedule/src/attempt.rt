@@ -17,7 +17,7 @@ use lives::{lives_of, stages_of};
 use model::{Edge, Timing};
 use registers::scheme::Scheme;
 use reservation::TimeTable;
-use search::{Outcome, search};
+use search::search;
 
 // The most stages of a schedule.
 const STAGES: usize = 8;
@@ -64,24 +64,23 @@ pub(crate) fn attempt<S: Scheme>(
     let Ok(outcome) = search(edges, timings, units, interval) else {
         return Attempt::Failed(0);
     };
-    match outcome {
-        Outcome::Failed(steps) => Attempt::Failed(steps),
-        Outcome::Found(table, steps) => {
-            let times = times_of(&table);
-            let stages = stages_of(l, &times, interval);
-            if stages > STAGES {
-                return Attempt::Failed(steps);
-            }
-            match offer(scheme, l, timings, &times, interval) {
-                None => Attempt::Failed(steps),
-                Some(turns) => Attempt::Taken(Choice {
-                    interval,
-                    times,
-                    steps,
-                    stages,
-                    turns,
-                }),
-            }
-        }
+    let steps = outcome.steps;
+    let Some(table) = outcome.times else {
+        return Attempt::Failed(steps);
+    };
+    let times = times_of(&table);
+    let stages = stages_of(l, &times, interval);
+    if stages > STAGES {
+        return Attempt::Failed(steps);
+    }
+    match offer(scheme, l, timings, &times, interval) {
+        None => Attempt::Failed(steps),
+        Some(turns) => Attempt::Taken(Choice {
+            interval,
+            times,
+            steps,
+            stages,
+            turns,
+        }),
     }
 }

@@ -1,8 +1,7 @@
 -- The weights as the edges are gone through.
-use Rattle.std.proofs.Common.{◌≡◌, ℕ, zero, suc, ◌+◌, ◌-◌, ◌*◌, ◌<◌, ◌≤◌, max, Bool, true, false, cond, ◌&&◌, eqb, List, [], length, get_or, take, set, replicate, Some, None, Option, unwrap_or, ◌⊎◌, sym, refl, ap, ap₂, ◌∙◌, inl, inr, arith}
+use Rattle.std.proofs.Common.{◌≡◌, ℕ, zero, suc, ◌+◌, ◌<◌, ◌≤◌, max, false, cond, ◌&&◌, eqb, List, [], length, get_or, take, set, replicate, Some, None, Option, unwrap_or, ◌⊎◌, sym, refl, ap, ap₂, ◌∙◌, inl, inr, arith}
 use Rattle.std.proofs.lemmas.List.{get_or-set_same, get_or-set_other, length-set}
 use Rattle.std.proofs.lemmas.Bool.{cases_eq, eq-eqb, ne_eqb, and_from, and_left, and_right}
-use Rattle.model.specs.Limits.{EdgeFits}
 use Rattle.model.specs.declared.Edge.{Edge}
 use Rattle.search_laws.specs.Weights.{lifted, weight}
 use Rattle.search_laws.proofs.Weights.{weight_more, weight_none}

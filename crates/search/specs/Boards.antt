@@ -5,7 +5,6 @@ use Rattle.model.specs.Limits.{timing}
 use Rattle.model.specs.Loop.{Hardware}
 use Rattle.model.specs.Search as model
 use Rattle.model.specs.Search.{Times, State, first, fallback}
-use Rattle.model.specs.declared.Edge.{Edge}
 use Rattle.model.specs.declared.Timing.{Timing}
 use Rattle.search_laws.specs.Counts.{Low}
 use Rattle.search_laws.specs.Weights.{early_by}

@@ -7,10 +7,10 @@ returns-in_default g c =
     absurd (no_error (loop_seen c.args.l.now) c.args.edges.now c.args.timings.now c.args.units.now c.args.interval c.requires.ready c.requires.below
     c.in_default.field-0 c.in_default.ensures)
 
-pub returns-in-Failed : goal.returns-in-Failed
-returns-in-Failed g c =
+pub returns-in_default-times : goal.returns-in_default-times
+returns-in_default-times g c =
     when_failed (loop_seen c.args.l.now) c.args.edges.now c.args.timings.now c.args.units.now c.args.interval c.requires.ready c.requires.below
-    g.S.Scheme.meaning c.args.scheme.now c.in-Failed.steps c.in-Ok.outcome c.in-Ok.ensures c.in-Failed.is
+    g.S.Scheme.meaning c.args.scheme.now c.in-Ok.outcome c.in-Ok.ensures c.in_default-times.is
 
 pub returns-then-stages-gt-STAGES : goal.returns-then-stages-gt-STAGES
 returns-then-stages-gt-STAGES g c =
@@ -21,8 +21,8 @@ returns-then-stages-gt-STAGES g c =
     let k = c.args.interval in
     let ready = c.requires.ready in
     let below = c.requires.below in
-    when_deep ops es us units k ready below g.S.Scheme.meaning c.args.scheme.now c.in-Found.steps c.times_of-times.result c.stages_of-stages.result
-    (found_is ops es us units k ready below c.in-Found.table c.in-Found.steps c.times_of-times.result c.in-Ok.outcome c.in-Ok.ensures c.in-Found.is c.times_of-times.ensures)
+    when_deep ops es us units k ready below g.S.Scheme.meaning c.args.scheme.now c.in-Ok.outcome.steps c.times_of-times.result c.stages_of-stages.result
+    (found_is ops es us units k ready below c.in-Some.table c.times_of-times.result c.in-Ok.outcome c.in-Ok.ensures c.in-Some.is c.times_of-times.ensures)
     c.stages_of-stages.ensures c.if-stages-gt-STAGES.true
 
 pub offer-requires : goal.offer-requires
@@ -39,13 +39,13 @@ returns-in-None g c =
     let k = c.args.interval in
     let ready = c.requires.ready in
     let below = c.requires.below in
-    when_refused ops es us units k ready below g.S.Scheme.meaning c.args.scheme.now g.S.Scheme.place c.offer.new.scheme c.in-Found.steps c.times_of-times.result
+    when_refused ops es us units k ready below g.S.Scheme.meaning c.args.scheme.now g.S.Scheme.place c.offer.new.scheme c.in-Ok.outcome.steps c.times_of-times.result
     c.stages_of-stages.result
-    (found_is ops es us units k ready below c.in-Found.table c.in-Found.steps c.times_of-times.result c.in-Ok.outcome c.in-Ok.ensures c.in-Found.is c.times_of-times.ensures)
+    (found_is ops es us units k ready below c.in-Some.table c.times_of-times.result c.in-Ok.outcome c.in-Ok.ensures c.in-Some.is c.times_of-times.ensures)
     c.stages_of-stages.ensures c.if-stages-gt-STAGES.false (c.in-None.ensures units)
 
-pub returns-in-Some : goal.returns-in-Some
-returns-in-Some g c =
+pub returns-in-Some-offer : goal.returns-in-Some-offer
+returns-in-Some-offer g c =
     let ops = loop_seen c.args.l.now in
     let es = c.args.edges.now in
     let us = c.args.timings.now in
@@ -53,7 +53,7 @@ returns-in-Some g c =
     let k = c.args.interval in
     let ready = c.requires.ready in
     let below = c.requires.below in
-    when_taken ops es us units k ready below g.S.Scheme.meaning c.args.scheme.now g.S.Scheme.place c.offer.new.scheme c.in-Found.steps c.times_of-times.result
-    c.stages_of-stages.result c.in-Some.turns
-    (found_is ops es us units k ready below c.in-Found.table c.in-Found.steps c.times_of-times.result c.in-Ok.outcome c.in-Ok.ensures c.in-Found.is c.times_of-times.ensures)
-    c.stages_of-stages.ensures c.if-stages-gt-STAGES.false (c.in-Some.ensures units)
+    when_taken ops es us units k ready below g.S.Scheme.meaning c.args.scheme.now g.S.Scheme.place c.offer.new.scheme c.in-Ok.outcome.steps c.times_of-times.result
+    c.stages_of-stages.result c.in-Some-offer.turns
+    (found_is ops es us units k ready below c.in-Some.table c.times_of-times.result c.in-Ok.outcome c.in-Ok.ensures c.in-Some.is c.times_of-times.ensures)
+    c.stages_of-stages.ensures c.if-stages-gt-STAGES.false (c.in-Some-offer.ensures units)

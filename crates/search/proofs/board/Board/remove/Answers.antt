@@ -1,5 +1,4 @@
 use Rattle.std.proofs.Common.{◌≡◌, refl, sym, ◌∙◌, arith, rules}
-use Rattle.search.specs.Boards.{placed_on}
 use Rattle.search.proofs.Boards.{removed, roomy_alike, weighed_then, placed_inside}
 use Rattle.search.proofs.board.Board.remove.Goals as goal
 

@@ -1,5 +1,5 @@
-use Rattle.search_laws.proofs.Ties.{unmarked_none, unmarked_more, unmarked_same}
-use Rattle.search.proofs.Boards.{same_still, keeps_both}
+use Rattle.search_laws.proofs.Ties.{unmarked_none}
+use Rattle.search.proofs.Boards.{same_still}
 use Rattle.search.proofs.board.Board.remove_marked.Goals as goal
 
 pub loop-op-init : goal.loop-op-init

@@ -1,7 +1,4 @@
-use Rattle.std.proofs.Common.{ap, ◌∙◌, arith, rules}
-use Rattle.std.proofs.lemmas.List.{take_all}
 use Rattle.graph_laws.proofs.Steps.{fits_at}
-use Rattle.search_laws.specs.Weights.{weight}
 use Rattle.search.proofs.Entries.{woven_none, woven_more}
 use Rattle.search.proofs.weight_table.Weights.new.Goals as goal
 
