@@ -7,7 +7,8 @@ use Rattle.graph_laws.proofs.Cut.{delays_append, distances_append, walk_append}
 use Rattle.graph_laws.proofs.Steps.{fits_at}
 use Rattle.graph_laws.specs.Trails.{Partly, BestWalk}
 use Rattle.bounds.specs.declared.graph.Relaxation.{Relaxation}
-use Rattle.bounds.specs.Rounds.{mark, Marked, Traced}
+use Rattle.bounds.specs.Noted.{noted}
+use Rattle.bounds.specs.Rounds.{Marked, Traced}
 use Rattle.bounds.proofs.Marks.{row_before}
 
 -- The walk so far from start, which stands at `at`, with these rows left.
@@ -36,7 +37,7 @@ module _ (g : Relaxation) (start : ℕ) where
     before : Partly g.graph.edges.now g.interval g.graph.count start xs (suc (length left)) at
     before = subst (λ n. Partly g.graph.edges.now g.interval g.graph.count start xs n at) size last.partly
 
-    pub stays : mark marks at ≡ None → Trail g start xs at left
+    pub stays : noted marks at ≡ None → Trail g start xs at left
     stays none =
         let rows = row_before g.graph.edges.now g.interval left marks last.traced in
         let m : rounds g.interval g.graph.edges.now (suc (length left)) at ≡ rounds g.interval g.graph.edges.now (length left) at = rw none at (rows.1 at) in
@@ -47,7 +48,7 @@ module _ (g : Relaxation) (start : ℕ) where
           partly = (before.0, omega (arith, before.1, m));
         }
 
-    module _ (x : ℕ) (some : mark marks at ≡ Some x) where
+    module _ (x : ℕ) (some : noted marks at ≡ Some x) where
       taken : Marked g.graph.edges.now g.interval (rounds g.interval g.graph.edges.now (length left)) (rounds g.interval g.graph.edges.now (suc (length left))) at (Some x)
       taken = subst (Marked g.graph.edges.now g.interval (rounds g.interval g.graph.edges.now (length left)) (rounds g.interval g.graph.edges.now (suc (length left))) at) some
           ((row_before g.graph.edges.now g.interval left marks last.traced).1 at)

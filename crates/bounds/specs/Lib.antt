@@ -1,4 +1,5 @@
 pub mod Graphs
+pub mod Noted
 pub mod Rounds
 pub mod Paths
 pub mod Passing

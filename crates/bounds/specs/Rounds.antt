@@ -6,13 +6,11 @@ use Rattle.model.specs.Relaxation.{round, rounds}
 use Rattle.graph_laws.specs.Trails.{value, Offers}
 use Rattle.bounds.specs.declared.relax.FirstSettled.{FirstSettled}
 use Rattle.bounds.specs.declared.row.Row.{Row}
+use Rattle.bounds.specs.Noted.{noted}
 
 -- Values that relaxation can reach in 32 rounds.
 abbrev pub Low : List ℕ → Type 0
 Low hs = (u : ℕ) → slice_index hs u ≤ 256
-
-abbrev pub mark : List (Option ℕ) → ℕ → Option ℕ
-mark marks u = slice_index_or marks u None
 
 -- A round from h to g at u changed nothing, or took what the edge of this number offers.
 abbrev pub Marked : List Edge → ℕ → (ℕ → ℕ) → (ℕ → ℕ) → ℕ → Option ℕ → Type 0
@@ -22,12 +20,12 @@ Marked es k h g u (Some x) = Offers es k h u (g u) x × (h u < g u)
 -- One round from the old values: the new ones, and the edges that it took.
 pub record RoundOf (es : List Edge) (k : ℕ) (old : List ℕ) (row : Row) : Type 0 where
   pub values : (u : ℕ) → slice_index row.values u ≡ round k es (value old) u
-  pub marks : (u : ℕ) → Marked es k (value old) (value row.values) u (mark row.marks u)
+  pub marks : (u : ℕ) → Marked es k (value old) (value row.values) u (noted row.marks u)
 
 -- The marks of each of the first n rounds.
 pub record Traced (es : List Edge) (k n : ℕ) (rows : List (List (Option ℕ))) : Type 0 where
   pub many : length rows ≡ n
-  pub each : (r : ℕ) → r < n → (u : ℕ) → Marked es k (rounds k es r) (rounds k es (suc r)) u (mark (slice_index_or rows r []) u)
+  pub each : (r : ℕ) → r < n → (u : ℕ) → Marked es k (rounds k es r) (rounds k es (suc r)) u (noted (slice_index_or rows r []) u)
 
 -- Round n still raised u.
 abbrev pub StillRises : List Edge → ℕ → ℕ → ℕ → Type 0

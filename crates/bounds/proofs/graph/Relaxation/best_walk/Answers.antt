@@ -1,12 +1,12 @@
 use Rattle.std.proofs.Common.{◌≡◌, Some, None, subst, sym, rules}
 use Rattle.model.specs.Walks.{edge}
-use Rattle.bounds.specs.Rounds.{mark}
+use Rattle.bounds.specs.Noted.{noted}
 use Rattle.bounds.proofs.Trail.{Trail, stays, edge_taken, goes_on, ended}
 use Rattle.bounds.proofs.graph.Relaxation.best_walk.Goals as goal
 
 pub offset_bounds-self-number : goal.offset_bounds-self-number
 offset_bounds-self-number c =
-    let some : mark c.in-Some.marks.now c.loop-marks.at ≡ Some c.in-Some-marks.number = search rules in
+    let some : noted c.in-Some.marks.now c.loop-marks.at ≡ Some c.in-Some-marks.number = search rules in
     let there = edge_taken c.args.self.now c.args.start _ _ _ _ _ c.in-Some.ensures.steps c.loop-marks.invariant.2 c.in-Some-marks.number some in
     search rules
 
@@ -15,7 +15,7 @@ bounds-self-number c = edge_taken c.args.self.now c.args.start _ _ _ _ _ c.in-So
 
 pub loop-marks-preserved-in-Some-marks : goal.loop-marks-preserved-in-Some-marks
 loop-marks-preserved-in-Some-marks c =
-    let some : mark c.in-Some.marks.now c.loop-marks.at ≡ Some c.in-Some-marks.number = search rules in (
+    let some : noted c.in-Some.marks.now c.loop-marks.at ≡ Some c.in-Some-marks.number = search rules in (
       tt,
       tt,
       subst (λ xs. Trail c.args.self.now c.args.start xs (edge c.args.self.now.graph.edges.now c.in-Some-marks.number).to c.next.new.self.iter.rest.now) (sym c.push.ensures)
@@ -24,7 +24,7 @@ loop-marks-preserved-in-Some-marks c =
 
 pub loop-marks-preserved : goal.loop-marks-preserved
 loop-marks-preserved c =
-    let none : mark c.in-Some.marks.now c.loop-marks.at ≡ None = search rules in
+    let none : noted c.in-Some.marks.now c.loop-marks.at ≡ None = search rules in
     (tt, tt, stays c.args.self.now c.args.start _ _ _ _ _ c.in-Some.ensures.steps c.loop-marks.invariant.2 none)
 
 pub returns : goal.returns
