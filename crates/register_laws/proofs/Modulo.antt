@@ -1,13 +1,14 @@
 -- Differences modulo m.
-use Rattle.std.proofs.Common.{◌≡◌, ℕ, zero, suc, ◌+◌, ◌-◌, ◌*◌, ◌%◌, ◌<◌, ◌≤◌, sym, ap, ◌∙◌, add-mul, arith}
+use Rattle.std.proofs.Common.{◌≡◌, ℕ, ◌+◌, ◌-◌, ◌*◌, ◌%◌, ◌<◌, ◌≤◌, ap, ◌∙◌, add-mul, arith}
 use native.Mathlib.Nat.{mod-add-mod, add-mul-mod_self_left}
 use Rattle.model.specs.Schemes.{less}
 
 -- m b is b and m - 1 times b
 pub split : (m b : ℕ) → 0 < m → (m - 1) * b + b ≡ m * b
-split zero b h = let f : ⊥ = omega arith in absurd f
-split (suc m) b h = let e : suc m - 1 ≡ m = omega arith in let p : suc m ≡ m + 1 = omega arith in
-    ap (λ x. x * b + b) e ∙ sym (ap (λ x. x * b) p ∙ add-mul m 1 b ∙ omega arith)
+split m b some =
+    let e : m - 1 + 1 ≡ m = omega arith in
+    let p = rw e at (add-mul (m - 1) 1 b) in
+    omega arith
 
 -- forth by r and back by p is back by p - r
 pub forth_and_back : (a r p : ℕ) → r ≤ p → less 64 ((a + r) % 64) p ≡ less 64 a (p - r)
