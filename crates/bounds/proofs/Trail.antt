@@ -1,5 +1,5 @@
 -- The walk that the rounds stand for, edge by edge.
-use Rattle.std.proofs.Common.{◌≡◌, ℕ, suc, ◌+◌, ◌*◌, ◌<◌, ◌≤◌, List, [], ◌∷◌, ◌++◌, Some, None, Option, length, refl, sym, ap, subst, add-mul, arith}
+use Rattle.std.proofs.Common.{◌≡◌, ℕ, suc, ◌+◌, ◌*◌, ◌<◌, ◌≤◌, List, [], ◌∷◌, ◌++◌, Some, None, Option, length, refl, ap, subst, add-mul, arith}
 use Rattle.std.proofs.lemmas.List.{length-append}
 use Rattle.model.specs.Walks.{edge, distances}
 use Rattle.model.specs.Relaxation.{rounds}
@@ -19,14 +19,6 @@ pub record Trail (g : Relaxation) (start : ℕ) (xs : List ℕ) (at : ℕ) (left
   pub partly : Partly g.graph.edges.now g.interval g.graph.count start xs (length left) at
 
 module _ (g : Relaxation) (start : ℕ) where
-  pub begun : (rows : List (List (Option ℕ))) → start < 32 → Traced g.graph.edges.now g.interval g.graph.count rows → Trail g start [] start rows
-  begun rows inside t = record {
-    inside = inside;
-    few = omega (arith, t.many);
-    traced = subst (λ n. Traced g.graph.edges.now g.interval n rows) (sym t.many) t;
-    partly = (refl, omega (arith, ap (λ n. rounds g.interval g.graph.edges.now n start) t.many));
-  }
-
   module _ (xs : List ℕ) (at : ℕ) (all left : List (List (Option ℕ))) (marks : List (Option ℕ)) (split : all ≡ left ++ marks ∷ []) (here : Trail g start xs at all) where
     last : Trail g start xs at (left ++ marks ∷ [])
     last = subst (Trail g start xs at) split here

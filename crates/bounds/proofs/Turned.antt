@@ -7,17 +7,13 @@ use Rattle.model.specs.Walks.{edge}
 use Rattle.model.specs.Minimum.{CircuitWitness}
 use Rattle.model.specs.Relaxation.{rounds}
 use Rattle.graph_laws.specs.Trails.{BestWalk, Repeats}
-use Rattle.graph_laws.proofs.Steps.{all_within}
 use Rattle.graph_laws.proofs.Again.{next_edge}
-use Rattle.graph_laws.proofs.Whole.{exact_length, risen_before, witness}
+use Rattle.graph_laws.proofs.Whole.{exact_length, witness}
 use Rattle.bounds.specs.declared.graph.Relaxation.{Relaxation}
 use Rattle.bounds.specs.Passing.{RoundTrip}
 
 module _ (g : Relaxation) (u : ℕ) (xs : List ℕ) (b : BestWalk g.graph.edges.now g.interval g.graph.count u xs)
     (better : rounds g.interval g.graph.edges.now (g.graph.count - 1) u < rounds g.interval g.graph.edges.now g.graph.count u) where
-  pub starts_inside : u < g.graph.count
-  starts_inside = risen_before g.graph.edges.now g.interval g.graph.count u (all_within g.graph.count g.graph.edges.now g.graph.fits.each) g.graph.fits.some better
-
   pub long_enough : g.graph.count ≤ length xs
   long_enough = exact_length g.graph.edges.now g.interval g.graph.count u xs g.graph.fits.some b better
 
@@ -27,9 +23,6 @@ module _ (g : Relaxation) (u : ℕ) (xs : List ℕ) (b : BestWalk g.graph.edges.
 
     at : (t d : ℕ) → t < length ys → get_or ys t d ≡ get_or xs (trip.0 + t) d
     at t d l = ap (λ zs. get_or zs t d) trip.3 ∙ get_or-take (trip.1 - trip.0) (drop trip.0 xs) t d (omega (arith, size)) ∙ get_or-drop trip.0 xs t d
-
-    pub some_edges : 0 < length ys
-    some_edges = omega (arith, size, trip.2.order)
 
     pub edges_there : All (λ x. x < length g.graph.edges.now) ys
     edges_there t d l =
