@@ -5,7 +5,7 @@ mod play;
 mod print;
 
 use play::Session;
-use reader::lines::line_end;
+use reader::lines::Lines;
 use std::io;
 use std::io::{BufWriter, Read, Write};
 
@@ -13,16 +13,10 @@ use std::io::{BufWriter, Read, Write};
 fn play_all(rt: &HostRuntime, script: &[u8]) -> io::Result<()> {
     let mut out = BufWriter::new(rt.alloc(), rt.stdout())?;
     let mut session = Session::new(rt.alloc())?;
-    let mut at = 0;
-    let mut number: usize = 0;
-    while at < script.len() {
-        let end = line_end(script, at);
-        number = number.saturating_add(1);
-        let goes_on = session.play_line(&mut out, rt.alloc(), &script[at..end], number)?;
-        if !goes_on || end == script.len() {
+    for (number, line) in Lines::new(script) {
+        if !session.play_line(&mut out, rt.alloc(), line, number)? {
             break;
         }
-        at = end + 1;
     }
     out.flush()
 }

@@ -5,15 +5,6 @@ use std::io;
 use std::io::Write;
 use texts::fault::TextFault;
 
-fn layer_name(layer: Layer) -> &'static str {
-    match layer {
-        Layer::Text => "text",
-        Layer::Graph => "graph",
-        Layer::Plan => "plan",
-        Layer::Code => "code",
-    }
-}
-
 // One line: the number, the layer, and the line and the column if the fault tells them.
 fn print_refusal(
     out: &mut impl Write,
@@ -23,7 +14,6 @@ fn print_refusal(
     line: Option<usize>,
     column: Option<usize>,
 ) -> io::Result<()> {
-    let layer = layer_name(layer);
     write!(out, "{call} refused {number} {layer}")?;
     if let Some(line) = line {
         write!(out, " line {line}")?;
@@ -71,13 +61,14 @@ pub(crate) fn print_graph_fault(
 
 // The edges by their numbers, from 1.
 pub(crate) fn print_edges(out: &mut impl Write, edges: &[Edge]) -> io::Result<()> {
-    let mut number: usize = 0;
-    for edge in edges {
-        number = number.saturating_add(1);
-        let from = edge.from;
-        let to = edge.to;
-        let delay = edge.delay;
-        let distance = edge.distance;
+    for (i, edge) in edges.iter().enumerate() {
+        let number = i.saturating_add(1);
+        let Edge {
+            from,
+            to,
+            delay,
+            distance,
+        } = *edge;
         writeln!(out, "edge {number} {from} {to} {delay} {distance}")?;
     }
     Ok(())

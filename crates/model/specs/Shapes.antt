@@ -1,5 +1,5 @@
 -- The shapes of a token, the reserved words, and the forms of a line.
-use Rattle.std.specs.Prelude.{ℕ, ◌+◌, ◌-◌, ◌*◌, Bool, true, false, cond, ◌&&◌, ◌||◌, List, [], ◌∷◌, length, take, drop, Some, None, codes, fold, Option, ◌==◌, nat_le, slice_index, is_some}
+use Rattle.std.specs.Prelude.{ℕ, ◌+◌, ◌-◌, ◌*◌, Bool, cond, ◌&&◌, ◌||◌, List, length, take, drop, Some, None, codes, fold, Option, ◌==◌, nat_le, slice_index, is_some}
 use Rattle.std.specs.List.{prefix_len, list_all, list_any}
 use Rattle.std.specs.Str.{bytes_eq}
 use Rattle.model.specs.declared.Code.{Code}

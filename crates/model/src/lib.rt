@@ -1,6 +1,8 @@
 // The words that every layer shares, and the functions that carry the theorems about the definitions in specs/.
 #![tactic(auto)]
 
+mod display;
+
 // What an operation does.
 #[derive(Clone, Copy, PartialEq, Eq, Debug)]
 pub enum Code {

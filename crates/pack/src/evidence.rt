@@ -4,60 +4,50 @@ use bounds::{Minimum, Witness, minimum};
 use dependence::hardware::{timings_of, units_of};
 use dependence::loops::Loop;
 use dependence::operation::{Operand, Operation};
-use model::{Code, Edge, Timing};
-use statements::statement::Statement;
+use model::{Edge, Timing};
 use statements::statements::Statements;
-use std::io;
+use std::fmt::Display;
 use std::io::Write;
+use std::{fmt, io};
 use texts::machine::Machine;
 
-fn code_word(code: Code) -> &'static str {
-    match code {
-        Code::Load => "load",
-        Code::Store => "store",
-        Code::Add => "add",
-        Code::Sub => "sub",
-        Code::Mul => "mul",
-        Code::Move => "move",
-    }
-}
+// The word for the code of operation i.
+#[derive(Clone, Copy)]
+struct CodeAt<'a>(&'a [Operation], usize);
 
-fn code_at(operations: &[Operation], i: usize) -> &'static str {
-    if i >= operations.len() {
-        return "?";
+impl fmt::Display for CodeAt<'_> {
+    fn fmt<W: fmt::Write>(&self, f: &mut fmt::Formatter<W>) -> fmt::Result {
+        match self.0.get(self.1) {
+            Some(operation) => operation.code().fmt(f),
+            None => f.pad("?"),
+        }
     }
-    code_word(operations[i].code())
 }
 
 fn plural(n: usize) -> &'static str {
     if n == 1 { "" } else { "s" }
 }
 
-fn is_variable(operand: Operand) -> bool {
-    match operand {
-        Operand::Literal(_) => false,
-        Operand::Variable { .. } => true,
-    }
+fn is_variable(operand: &Operand) -> bool {
+    matches!(operand, Operand::Variable { .. })
 }
 
 // How many operands of an operation name a variable: so many edges lead to it.
-fn variables_of(operation: Operation) -> usize {
+fn variables_of(operation: &Operation) -> usize {
     match operation {
         Operation::Load(_) => 0,
-        Operation::Store(value, _) => usize::from(is_variable(value)),
+        Operation::Store(value, _) | Operation::Move(value) => usize::from(is_variable(value)),
         Operation::Binary(_, left, right) => {
             usize::from(is_variable(left)) + usize::from(is_variable(right))
         }
-        Operation::Move(value) => usize::from(is_variable(value)),
     }
 }
 
 fn operand_edges(operations: &[Operation]) -> usize {
-    let mut n: usize = 0;
-    for operation in operations {
-        n = n.saturating_add(variables_of(*operation));
-    }
-    n
+    operations
+        .iter()
+        .map(variables_of)
+        .fold(0, usize::saturating_add)
 }
 
 fn show_edge(
@@ -67,8 +57,8 @@ fn show_edge(
     edge: Edge,
     operations: &[Operation],
 ) -> io::Result<()> {
-    let from = code_at(operations, edge.from);
-    let to = code_at(operations, edge.to);
+    let from = CodeAt(operations, edge.from);
+    let to = CodeAt(operations, edge.to);
     let delay = edge.delay;
     let cycles = plural(delay);
     write!(
@@ -90,31 +80,27 @@ pub(crate) fn show_edges(
     edges: &[Edge],
     named: &Statements,
 ) -> io::Result<()> {
-    let operations = &body.operations[0..body.count];
-    let statements: &[Statement] = &named.items[0..named.count];
+    let operations = body.operations();
+    let statements = named.items.as_slice();
     let values = operand_edges(operations);
     writeln!(out, "edges")?;
-    let mut number: usize = 0;
-    for edge in edges {
-        let what = if number < values {
+    for (i, edge) in edges.iter().enumerate() {
+        let what = if i < values {
             name_at(statements, edge.from)
         } else {
             "the cell"
         };
-        number = number.saturating_add(1);
-        show_edge(out, number, what, *edge, operations)?;
+        show_edge(out, i.saturating_add(1), what, *edge, operations)?;
     }
     Ok(())
 }
 
 fn busy_of(timings: &[Timing], class: usize) -> usize {
-    let mut sum: usize = 0;
-    for timing in timings {
-        if timing.class == class {
-            sum = sum.saturating_add(timing.busy);
-        }
-    }
-    sum
+    timings
+        .iter()
+        .filter(|timing| timing.class == class)
+        .map(|timing| timing.busy)
+        .fold(0, usize::saturating_add)
 }
 
 fn show_class(
@@ -148,11 +134,10 @@ fn show_circuit(
     let mut distances: usize = 0;
     write!(out, ": around")?;
     for number in numbers {
-        if *number < edges.len() {
-            let edge = edges[*number];
+        if let Some(edge) = edges.get(*number) {
             delays = delays.saturating_add(edge.delay);
             distances = distances.saturating_add(edge.distance);
-            let from = code_at(operations, edge.from);
+            let from = CodeAt(operations, edge.from);
             let shown = number.saturating_add(1);
             write!(out, " '{from}' (edge {shown})")?;
         }
@@ -184,10 +169,10 @@ pub(crate) fn show_minimum(
     edges: &[Edge],
 ) -> io::Result<()> {
     let timings = timings_of(machine, body);
-    let timings = &timings[0..body.count];
+    let timings = timings.as_slice();
     let units = units_of(machine);
     let units = &units[0..machine.entries.count];
-    let operations = &body.operations[0..body.count];
+    let operations = body.operations();
     match minimum(edges, timings, units) {
         Ok(found) => show_witness(out, machine, timings, edges, operations, &found),
         Err(_) => writeln!(out, "no minimum"),

@@ -1,6 +1,6 @@
 // A refused text, as compilers tell it: the place, the number, what is wrong, and the line with its token marked.
 use dependence::fault::GraphFault;
-use reader::lines::line_end;
+use reader::lines::Lines;
 use std::io;
 use std::io::Write;
 use texts::fault::TextFault;
@@ -13,18 +13,10 @@ pub struct Source<'a> {
 
 // The line of this number, from 1; an empty one if there is none.
 fn nth_line(text: &[u8], number: usize) -> &[u8] {
-    let mut at = 0;
-    let mut n: usize = 1;
-    while at < text.len() {
-        let end = line_end(text, at);
+    for (n, line) in Lines::new(text) {
         if n == number {
-            return &text[at..end];
+            return line;
         }
-        if end == text.len() {
-            break;
-        }
-        n = n.saturating_add(1);
-        at = end + 1;
     }
     b""
 }

@@ -1,7 +1,7 @@
 // What was read, in a form that people like to read.
 use dependence::loops::Loop;
 use dependence::operation::{Operand, Operation};
-use model::{Operator, Timing};
+use model::{Code, Timing};
 use operations::Cell;
 use statements::statement::Statement;
 use statements::statements::Statements;
@@ -11,6 +11,16 @@ use std::io::Write;
 use std::str::from_utf8;
 use texts::entries::Class;
 use texts::machine::Machine;
+
+// The codes in the order of their numbers.
+const CODES: [Code; 6] = [
+    Code::Load,
+    Code::Store,
+    Code::Add,
+    Code::Sub,
+    Code::Mul,
+    Code::Move,
+];
 
 pub(crate) fn as_text(bytes: &[u8]) -> &str {
     match from_utf8(bytes) {
@@ -28,16 +38,15 @@ fn show_class(out: &mut impl Write, class: &Class) -> io::Result<()> {
 
 fn show_timing(
     out: &mut impl Write,
-    code: &str,
+    code: Code,
     timing: Timing,
     classes: &[Class],
 ) -> io::Result<()> {
     let latency = timing.latency;
     let busy = timing.busy;
-    let name = if timing.class < classes.len() {
-        as_text(classes[timing.class].name.text())
-    } else {
-        "?"
+    let name = match classes.get(timing.class) {
+        Some(class) => as_text(class.name.text()),
+        None => "?",
     };
     writeln!(out, "  {code:<6} {name:<8} latency {latency}  busy {busy}")
 }
@@ -49,8 +58,7 @@ pub(crate) fn show_machine(out: &mut impl Write, machine: &Machine) -> io::Resul
     for class in classes {
         show_class(out, class)?;
     }
-    let codes = ["load", "store", "add", "sub", "mul", "move"];
-    for (code, timing) in codes.iter().zip(entries.timings.iter()) {
+    for (code, timing) in CODES.iter().zip(entries.timings.iter()) {
         if let Some(timing) = timing {
             show_timing(out, *code, *timing, classes)?;
         }
@@ -60,12 +68,14 @@ pub(crate) fn show_machine(out: &mut impl Write, machine: &Machine) -> io::Resul
 
 // The name that operation i defines.
 pub(crate) fn name_at(statements: &[Statement], i: usize) -> &str {
-    if i >= statements.len() {
-        return "?";
-    }
-    match &statements[i].defines {
-        Some(name) => as_text(name.text()),
-        None => "?",
+    match statements.get(i) {
+        Some(
+            Statement {
+                defines: Some(name),
+                ..
+            },
+        ) => as_text(name.text()),
+        _ => "?",
     }
 }
 
@@ -99,54 +109,32 @@ fn operand_text(
     }
 }
 
-fn operator_name(operator: Operator) -> &'static str {
-    match operator {
-        Operator::Plus => "add",
-        Operator::Minus => "sub",
-        Operator::Times => "mul",
-    }
-}
-
-fn show_row(
-    out: &mut impl Write,
-    number: usize,
-    code: &str,
-    writes: &str,
-    reads: &str,
-) -> io::Result<()> {
-    writeln!(out, "  {number:<3} {code:<6} {writes:<18} {reads}")
-}
-
 // An operation by its number: the code, what it writes and what it reads.
 fn show_operation(
     out: &mut impl Write,
     heap: Global,
     number: usize,
-    operation: Operation,
+    operation: &Operation,
     statements: &[Statement],
 ) -> io::Result<()> {
     let name = name_at(statements, number);
+    let mut writes = String::from_str(heap, name)?;
+    let mut reads = String::new(heap);
     match operation {
-        Operation::Load(cell) => {
-            let reads = cell_text(heap, cell)?;
-            show_row(out, number, "load", name, reads.as_str())
-        }
+        Operation::Load(cell) => reads = cell_text(heap, *cell)?,
         Operation::Store(value, cell) => {
-            let writes = cell_text(heap, cell)?;
-            let reads = operand_text(heap, value, statements)?;
-            show_row(out, number, "store", writes.as_str(), reads.as_str())
+            writes = cell_text(heap, *cell)?;
+            reads = operand_text(heap, *value, statements)?;
         }
-        Operation::Binary(operator, left, right) => {
-            let mut reads = operand_text(heap, left, statements)?;
+        Operation::Binary(_, left, right) => {
+            reads = operand_text(heap, *left, statements)?;
             reads.push_str(", ")?;
-            reads.push_str(operand_text(heap, right, statements)?.as_str())?;
-            show_row(out, number, operator_name(operator), name, reads.as_str())
+            reads.push_str(operand_text(heap, *right, statements)?.as_str())?;
         }
-        Operation::Move(value) => {
-            let reads = operand_text(heap, value, statements)?;
-            show_row(out, number, "move", name, reads.as_str())
-        }
+        Operation::Move(value) => reads = operand_text(heap, *value, statements)?,
     }
+    let code = operation.code();
+    writeln!(out, "  {number:<3} {code:<6} {writes:<18} {reads}")
 }
 
 // The operations in text order, under a heading.
@@ -156,14 +144,14 @@ pub(crate) fn show_loop(
     body: &Loop,
     named: &Statements,
 ) -> io::Result<()> {
-    let statements = &named.items[0..named.count];
+    let statements = named.items.as_slice();
     writeln!(
         out,
         "  {:<3} {:<6} {:<18} {}",
         "", "code", "writes", "reads"
     )?;
-    for (number, operation) in body.operations[0..body.count].iter().enumerate() {
-        show_operation(out, heap, number, *operation, statements)?;
+    for (number, operation) in body.operations().iter().enumerate() {
+        show_operation(out, heap, number, operation, statements)?;
     }
     Ok(())
 }

@@ -1,27 +1,13 @@
+use crate::answers::told;
 use crate::machines::padded;
 use dependence::loops::Loop;
 use dependence::operation::{Operand, Operation};
-use model::Layer;
 use std::alloc::{AllocError, Global};
 use std::process::Abort;
 use std::test::Fail;
 
-// The text is refused by this number at this line and column (0 for none), or accepted (number 0). The note tells which text it is.
 fn answers(rt: &impl Abort, text: &[u8], note: &str, number: usize, line: usize, column: usize) {
-    match Loop::read(text) {
-        Ok(_) => assert_eq!(rt; number, 0, "{note}"),
-        Err(fault) => {
-            let layer = if number == 7 {
-                Layer::Graph
-            } else {
-                Layer::Text
-            };
-            assert_eq!(rt; fault.number(), number, "{note}");
-            assert_eq!(rt; fault.layer(), layer, "{note}");
-            assert_eq!(rt; fault.line(), Some(line), "{note}");
-            assert_eq!(rt; fault.column().unwrap_or(0), column, "{note}");
-        }
-    }
+    told(rt, Loop::read(text), note, number, line, column);
 }
 
 #[test]
@@ -163,16 +149,17 @@ fn the_worked_loop(rt: HostRuntime) -> Result<(), Fail> {
     let Ok(body) = Loop::read(b"a = load 1 0\ns = add s@1 a\nstore s 1 64\n") else {
         return Err(Fail::new("the loop is accepted"));
     };
-    assert_eq!(rt; body.count, 3);
-    let Operation::Binary(_, left, right) = body.operations[1] else {
-        return Err(Fail::new("the second operation adds"));
+    let [
+        _,
+        Operation::Binary(_, left, right),
+        Operation::Store(value, cell),
+    ] = body.operations()
+    else {
+        return Err(Fail::new("three operations, of which the second adds and the third stores"));
     };
-    reads(&rt, left, 1, 1)?;
-    reads(&rt, right, 0, 0)?;
-    let Operation::Store(value, cell) = body.operations[2] else {
-        return Err(Fail::new("the third operation stores"));
-    };
-    reads(&rt, value, 1, 0)?;
+    reads(&rt, *left, 1, 1)?;
+    reads(&rt, *right, 0, 0)?;
+    reads(&rt, *value, 1, 0)?;
     assert_eq!(rt; cell.stride, 1);
     assert_eq!(rt; cell.offset, 64);
     Ok(())

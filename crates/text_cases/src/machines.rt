@@ -1,3 +1,5 @@
+use crate::answers::told;
+use dependence::fault::GraphFault;
 use std::process::Abort;
 use std::test::Fail;
 use texts::machine::Machine;
@@ -5,16 +7,9 @@ use texts::machine::Machine;
 const ALL: &str =
     "unit alu 1\nunit mem 1\nop load mem 2 1\nop store mem 1 1\nop mul alu 3 1\nop add alu 1 1\nop sub alu 1 1\nop move alu 1 1";
 
-// The text is refused by this number at this line and column (0 for none), or accepted (number 0). The note tells which text it is.
 fn answers(rt: &impl Abort, text: &[u8], note: &str, number: usize, line: usize, column: usize) {
-    match Machine::read(text) {
-        Ok(_) => assert_eq!(rt; number, 0, "{note}"),
-        Err(fault) => {
-            assert_eq!(rt; fault.number(), number, "{note}");
-            assert_eq!(rt; fault.line(), line, "{note}");
-            assert_eq!(rt; fault.column().unwrap_or(0), column, "{note}");
-        }
-    }
+    let reading = Machine::read(text).map_err(GraphFault::from);
+    told(rt, reading, note, number, line, column);
 }
 
 #[test]
@@ -88,10 +83,8 @@ fn classes_and_codes(rt: HostRuntime) {
 // A text with spaces behind it, up to 4,097 bytes.
 pub(crate) fn padded(text: &[u8]) -> [u8; 4097] {
     let mut whole = [b' '; 4097];
-    for (i, b) in text.iter().enumerate() {
-        if i < 4097 {
-            whole[i] = *b;
-        }
+    for (place, b) in whole.iter_mut().zip(text) {
+        *place = *b;
     }
     whole
 }
