@@ -11,6 +11,7 @@ mod slot;
 mod state;
 mod step;
 mod task;
+mod weight;
 mod weight_table;
 mod weights;
 

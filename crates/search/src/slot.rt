@@ -2,29 +2,15 @@
 ghost use Rattle.std.specs.Prelude.{◌≡◌, ℕ, ◌+◌, ◌-◌, ◌*◌, ◌<◌, ◌≤◌, Bool, true, false, if◌then◌else◌, Some, None, nat_eq, slice_index_or};
 ghost use Rattle.std.specs.Option.{unwrap_or};
 ghost use Rattle.model.specs.Search.{first, fallback};
-ghost use Rattle.search_laws.specs.Weights.{asked, unmet, torn_by};
+ghost use Rattle.search_laws.specs.Weights.{asked, torn_by};
 ghost use Rattle.reservation.specs.Views.{fits_of};
 ghost use Rattle.search.specs.Views.{weights_of};
 ghost use Rattle.search.specs.Boards.{size, placed_on, early_on, slot_on};
 
 use crate::board::Board;
-use crate::weights::LIFT;
 use model::Timing;
 use reservation::ReservationTable;
 use std::array;
-
-// What the edges of a weight from an operation at this time ask of the early time.
-fn asked(weight: Option<usize>, time: Option<u16>) -> usize
-    requires low { (w : ℕ) → weight ≡ Some w → w ≤ 1801 }
-    requires raised { (w : ℕ) → weight ≡ Some w → 1 ≤ w }
-    ensures value { result ≡ asked (unwrap_or weight 0) time }
-    ensures small { result < 65600 }
-{
-    match (weight, time) {
-        (Some(weight), Some(time)) => (usize::from(time) + weight).saturating_sub(LIFT),
-        _ => 0,
-    }
-}
 
 // The first time of the window at which an operation fits beside those placed.
 fn window(table: &ReservationTable, timing: Timing, from: usize) -> Option<usize>
@@ -42,20 +28,6 @@ fn forced(last: Option<u16>, early: usize) -> usize
     last.map_or(early, |last| early.max(usize::from(last) + 1))
 }
 
-// An edge of a weight between placed operations is not met.
-fn unmet(weight: Option<usize>, from: Option<u16>, to: Option<u16>) -> bool
-    requires low { (w : ℕ) → weight ≡ Some w → w ≤ 1801 }
-    requires raised { (w : ℕ) → weight ≡ Some w → 1 ≤ w }
-    ensures { result ≡ unmet (unwrap_or weight 0) from to }
-{
-    match (weight, from, to) {
-        (Some(weight), Some(from), Some(to)) => {
-            usize::from(to) + LIFT < usize::from(from) + weight
-        }
-        _ => false,
-    }
-}
-
 impl Board<'_> {
     // What the edges from operation q ask of the early time of another.
     fn asked_by(&self, q: usize, op: usize) -> usize
@@ -66,7 +38,10 @@ impl Board<'_> {
         if q == op {
             return 0;
         }
-        asked(self.task.weights.at(q, op), self.time.at(q))
+        let weight = self.task.weights.at(q, op);
+        weight
+            .zip(self.time.at(q))
+            .map_or(0, |(weight, time)| weight.asks(time))
     }
 
     // The early time of an operation.
@@ -97,10 +72,13 @@ impl Board<'_> {
         requires { (op < 32) × (q < 32) }
         ensures { result ≡ torn_by (weights_of self.now.task.now.weights) (placed_on self.now) op q }
     {
-        let here = self.time.at(op);
-        let there = self.time.at(q);
-        let weights = &self.task.weights;
-        unmet(weights.at(op, q), here, there) || unmet(weights.at(q, op), there, here)
+        let (Some(here), Some(there)) = (self.time.at(op), self.time.at(q)) else {
+            return false;
+        };
+        let out = self.task.weights.at(op, q);
+        let back = self.task.weights.at(q, op);
+        out.is_some_and(|weight| weight.is_unmet(here, there))
+            || back.is_some_and(|weight| weight.is_unmet(there, here))
     }
 
     // The far ends of an operation's edges that are not met.

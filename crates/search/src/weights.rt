@@ -1,26 +1,14 @@
 // The edges between each two operations as one number, so that a step need not go through all edges.
-ghost use Rattle.std.specs.Prelude.{◌≡◌, ℕ, ◌+◌, ◌-◌, ◌*◌, ◌<◌, ◌≤◌, max, Some, length};
+ghost use Rattle.std.specs.Prelude.{◌≡◌, ℕ, ◌<◌, ◌≤◌, max};
 ghost use Rattle.std.specs.List.{AllByRecursion};
 ghost use Rattle.std.specs.Option.{unwrap_or};
 ghost use Rattle.model.specs.Limits.{EdgeFits};
-ghost use Rattle.search_laws.specs.Weights.{lifted, weight};
-ghost use Rattle.search.specs.Views.{weights_of};
+ghost use Rattle.search_laws.specs.Weights.{weight};
+ghost use Rattle.search.specs.Views.{weight_seen, weights_of};
 
+use crate::weight::Weight;
 use crate::weight_table::Weights;
 use model::Edge;
-
-// What is added to each weight, so that none is below 1.
-pub(crate) const LIFT: usize = 1793;
-
-fn weight_of(edge: &Edge, interval: usize) -> u16
-    requires fits { EdgeFits 32 edge.now }
-    requires interval { interval ≤ 256 }
-    ensures weight { result ≡ lifted interval edge.now }
-    ensures low { result ≤ 1801 }
-    ensures raised { 1 ≤ result }
-{
-    (edge.delay + LIFT - edge.distance * interval) as u16
-}
 
 // A weight beside that of other edges, if there are any.
 fn most(others: Option<u16>, weight: u16) -> u16
@@ -37,18 +25,17 @@ impl Weights {
     {
         let mut between = [[None; 32]; 32];
         for edge in edges {
-            let weight = weight_of(edge, interval);
-            between[edge.from][edge.to] = Some(most(between[edge.from][edge.to], weight));
+            let weight = Weight::of(edge, interval);
+            between[edge.from][edge.to] = Some(most(between[edge.from][edge.to], weight.raised));
         }
         Weights { between }
     }
 
-    pub(crate) fn at(&self, from: usize, to: usize) -> Option<usize>
+    pub(crate) fn at(&self, from: usize, to: usize) -> Option<Weight>
         requires { (from < 32) × (to < 32) }
-        ensures value { unwrap_or result 0 ≡ weights_of self.now from to }
-        ensures low { (w : ℕ) → result ≡ Some w → w ≤ 1801 }
-        ensures raised { (w : ℕ) → result ≡ Some w → 1 ≤ w }
+        ensures { weight_seen result ≡ weights_of self.now from to }
     {
-        self.between[from][to].map(usize::from)
+        let raised = self.between[from][to]?;
+        Some(Weight { raised })
     }
 }
