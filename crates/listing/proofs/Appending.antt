@@ -1,21 +1,24 @@
 -- Rows put behind rows.
-use Rattle.std.proofs.Common.{◌≡◌, ℕ, ◌+◌, ◌<◌, ◌≤◌, true, false, cond, List, [], ◌∷◌, ◌++◌, map, length, vec_items, vec_len, vec_capacity, Vec, sym, refl, ap, ◌∙◌, subst, ap₂, add_assoc, add-one, arith}
+use Rattle.std.proofs.Common.{◌≡◌, ℕ, ◌+◌, ◌<◌, ◌≤◌, ◌-◌, ◌==◌, ◌&&◌, leb, ltb, get_or, true, false, cond, List, [], ◌∷◌, ◌++◌, map, length, vec_items, vec_len, vec_capacity, Vec, sym, refl, ap, ◌∙◌, subst, ap₂, add_assoc, add-one, arith}
 use Rattle.std.specs.declared.alloc.Global.{Global}
 use Rattle.std.proofs.lemmas.List.{append-nil, append_assoc, length-append, length_push, length-map, map_push}
-use Rattle.std.proofs.lemmas.Bool.{and_parts, leb-true}
 use Rattle.model.specs.Edges.{each}
-use Rattle.model.specs.Schedule.{stage}
 use Rattle.model.specs.Issues.{issues_in}
 use Rattle.model.specs.Listing as listings
 use Rattle.model.specs.Listing.{slot_in_pass, row_of}
-use Rattle.model.specs.declared.Part.{Part}
 use Rattle.listing.specs.declared.slot.Slot.{Slot}
 use Rattle.listing.specs.declared.rows.Rows.{Rows}
 use Rattle.listing.specs.declared.body.Body.{Body}
+use Rattle.listing.specs.declared.place.Place.{Place}
+use Rattle.listing.specs.declared.placed.Placed.{Placed}
 use Rattle.listing.specs.Views.{slot_seen, loop_of, schedule_of}
+use Rattle.listing.specs.Rows.{slot_of, slots_of_row}
+use Rattle.few.specs.Held.{held}
+use Rattle.dependence.specs.Operations.{operation_seen}
+use Rattle.model.specs.Schemes.{Meaning}
 use Rattle.listing.specs.Kept.{all_slots, cuts, Room, Appended}
 use Rattle.listing_laws.proofs.Each.{each_up_to, joined_append, joined_each}
-use Rattle.listing.proofs.Bodies.{count_is}
+use Rattle.listing.proofs.Bodies.{issues_at, slot_at}
 
 -- Slots put behind slots.
 pub record Grown (before after : Vec Slot Global) (more : List listings.Slot) : Type 0 where
@@ -37,38 +40,38 @@ grown_one v u t s x xs g items len cap is = record {
   cap = cap ∙ g.cap;
 }
 
-module _ (b : Body) (name : ℕ → ℕ → ℕ → ℕ) (part : Part) (q p r : ℕ) where
+module _ (b : Body) (m : Meaning) (place : Place) (r : ℕ) where
   -- operation j in row r of the pass, if it issues there
   abbrev pub issuing : ℕ → List listings.Slot
-  issuing j = cond (issues_in (schedule_of b) b.trips j p r) (slot_in_pass (loop_of b) (schedule_of b) name b.turns part q p j ∷ []) []
+  issuing j =
+      cond (issues_in (schedule_of b) b.trips j place.pass r) (slot_in_pass (loop_of b) (schedule_of b) m.name b.turns place.part place.written place.pass j ∷ []) []
 
-  pub row_is : row_of (loop_of b) (schedule_of b) name b.turns b.trips part q p r ≡ each issuing b.source.count
+  row_is : slots_of_row b m place r ≡ each issuing (length (held b.placed))
   unfolding row_of
-  row_is = ap (each issuing) (count_is b.source)
+  row_is = ap (each issuing) (length-map (held b.placed) (λ q. operation_seen q.operation))
 
-  pub issuing_yes : (v u t n : Vec Slot Global) (s : Slot) (j : ℕ) → n ≡ t → Grown v u (each issuing j) → issues_in (schedule_of b) b.trips j p r ≡ true →
-      vec_items t ≡ vec_items u ++ s ∷ [] → vec_len t ≡ vec_len u + 1 → vec_capacity t ≡ vec_capacity u →
-      slot_seen s ≡ slot_in_pass (loop_of b) (schedule_of b) name b.turns part q p j → Grown v n (each issuing (j + 1))
-  issuing_yes v u t n s j new g e items len cap is = rw (new, add-one, e) (grown_one v u t s _ (each issuing j) g items len cap is)
-
-  pub issuing_no : (v u n : Vec Slot Global) (j : ℕ) → n ≡ u → Grown v u (each issuing j) → issues_in (schedule_of b) b.trips j p r ≡ false → Grown v n (each issuing (j + 1))
-  issuing_no v u n j new g e = rw (new, add-one, e) (grown_same v u (each issuing j) g)
-
-  pub issuing_all : (v u : Vec Slot Global) (j : ℕ) → j ≡ b.source.count → Grown v u (each issuing j) →
-      Grown v u (row_of (loop_of b) (schedule_of b) name b.turns b.trips part q p r)
+  pub issuing_all : (v u : Vec Slot Global) (j : ℕ) → j ≡ length (held b.placed) → Grown v u (each issuing j) → Grown v u (slots_of_row b m place r)
   issuing_all v u j end g = subst (Grown v u) (ap (each issuing) end ∙ sym row_is) g
 
-  -- There is room for a slot that issues.
-  pub issuing_room : (v u : Vec Slot Global) (j : ℕ) → Grown v u (each issuing j) → issues_in (schedule_of b) b.trips j p r ≡ true → j < b.source.count →
-      vec_len v + length (row_of (loop_of b) (schedule_of b) name b.turns b.trips part q p r) ≤ vec_capacity v → vec_len u < vec_capacity u
-  issuing_room v u j g e h room =
-      let here : length (issuing j) ≡ 1 = rw e in
-      omega (arith, g.len, g.cap, ap length row_is, each_up_to issuing j b.source.count h)
+  module _ (ps : List Placed) (items : ps ≡ held b.placed) (j : ℕ) (p : Placed) (h : j < length ps) (is : p ≡ get_or ps j p) where
+    pub issuing_yes : (v u t n : Vec Slot Global) (s : Slot) → n ≡ t → Grown v u (each issuing j) →
+        true ≡ p.row == r && (leb p.stage place.pass && ltb (place.pass - p.stage) b.trips) →
+        vec_items t ≡ vec_items u ++ s ∷ [] → vec_len t ≡ vec_len u + 1 → vec_capacity t ≡ vec_capacity u →
+        slot_seen s ≡ slot_of b m place p → Grown v n (each issuing (j + 1))
+    issuing_yes v u t n s new g e put len cap same =
+        rw (new, add-one, sym (e ∙ issues_at b ps items j p h is place.pass r)) (grown_one v u t s _ (each issuing j) g put len cap (same ∙ slot_at b ps items j p h is m place))
 
-  -- What issues has begun.
-  pub begun : (j : ℕ) → issues_in (schedule_of b) b.trips j p r ≡ true → stage (schedule_of b) j ≤ p
-  unfolding issues_in
-  begun j e = leb-true _ _ (and_parts _ _ (and_parts _ _ e).1).0
+    pub issuing_no : (v u n : Vec Slot Global) → n ≡ u → Grown v u (each issuing j) →
+        false ≡ p.row == r && (leb p.stage place.pass && ltb (place.pass - p.stage) b.trips) → Grown v n (each issuing (j + 1))
+    issuing_no v u n new g e = rw (new, add-one, sym (e ∙ issues_at b ps items j p h is place.pass r)) (grown_same v u (each issuing j) g)
+
+    -- There is room for a slot that issues.
+    pub issuing_room : (v u : Vec Slot Global) → Grown v u (each issuing j) →
+        true ≡ p.row == r && (leb p.stage place.pass && ltb (place.pass - p.stage) b.trips) →
+        vec_len v + length (slots_of_row b m place r) ≤ vec_capacity v → vec_len u < vec_capacity u
+    issuing_room v u g e room =
+        let here : length (issuing j) ≡ 1 = rw (sym (e ∙ issues_at b ps items j p h is place.pass r)) in
+        omega (arith, g.len, g.cap, ap length row_is, each_up_to issuing j (length (held b.placed)) (rw items at h))
 
 -- What is kept takes so many places.
 cuts_push : (b : ℕ) (rows : List (List listings.Slot)) (row : List listings.Slot) → cuts b (rows ++ row ∷ []) ≡ cuts b rows ++ (b + length (all_slots (rows ++ row ∷ []))) ∷ []

@@ -1,57 +1,97 @@
--- The loop of a body, operation by operation.
-use Rattle.std.proofs.Common.{◌≡◌, ℕ, ◌+◌, ◌-◌, ◌%◌, ◌<◌, ◌≤◌, max, true, false, cond, ltb, List, [], ◌∷◌, length, get_or, take, set, Some, None, Option, sym, refl, ap, ◌∙◌, ap₂, inl, inr, add-one, arith}
-use Rattle.std.proofs.lemmas.List.{get_or-map, get_or-take, get_or-set_same, get_or-set_other, length-take-le, length-map}
-use Rattle.std.proofs.lemmas.Bool.{cases_eq, cases_Bool, eq-eqb, ne_eqb, cases_lt, le-leb, lt-leb}
-use Rattle.model.specs.Loop.{Loop, Operation, op, makes, on_operands, EachOperand, Named, WellFormed}
+-- The operations of a body in their places.
+use Rattle.std.proofs.Common.{◌≡◌, ℕ, zero, suc, ◌+◌, ◌-◌, ◌<◌, ◌≤◌, ◌==◌, ◌&&◌, leb, ltb, Some, Option, max, Bool, true, false, cond, List, [], ◌∷◌, ◌++◌, length, get_or, take, pos, fold, sym, refl, ap, ◌∙◌, ap₂, inl, inr, add-one, arith}
+use Rattle.std.proofs.lemmas.List.{length-map, get_or-map, map_push, take_more, get_or_append_left, get_or_push, get_or_default, length_push}
+use Rattle.std.proofs.Math.Seq.{take-length}
+use Rattle.std.proofs.lemmas.List.Sums.{fold_more}
+use Rattle.std.proofs.lemmas.Bool.{cases_lt}
+use Rattle.model.specs.Loop.{Loop, literal, move, op, makes, EachOperand, Named, WellFormed}
 use Rattle.model.specs.MachineText.{Machine}
 use Rattle.model.specs.Soundness.{hardware}
-use Rattle.model.specs.Schedule.{Schedule, stage, stages}
+use Rattle.model.specs.Schemes.{Meaning}
+use Rattle.model.specs.declared.Timing.{Timing}
+use Rattle.model.specs.Schedule.{Schedule, stages}
 use Rattle.model.specs.ScheduleLives.{greatest}
 use Rattle.model.specs.Issues.{variable_number, issues_in}
-use Rattle.model.specs.Listing.{distance, farthest, name_in, result_in, slot_in_pass, slot_with, operand_in, operation_in}
-use Rattle.model.specs.Listing as listings
-use Rattle.model.specs.Codes.{CodeSource}
-use Rattle.model.specs.declared.Part.{Part}
-use Rattle.model.specs.declared.Timing.{Timing}
-use Rattle.dependence.specs.declared.loops.Loop.{Loop as OwnLoop}
+use Rattle.model.specs.Listing.{distance, farthest, slot_in_pass}
+use Rattle.few.specs.Held.{held}
+use Rattle.operations.specs.Seen.{EachOwn}
+use Rattle.operations.specs.declared.operation.Operation.TheVariants.{Load, Store, Binary, Move}
 use Rattle.dependence.specs.declared.operation.Operand.{Operand as OwnOperand}
 use Rattle.dependence.specs.declared.operation.Operand.TheVariants.{Literal, Variable}
-use Rattle.operations.specs.declared.operation.Operation.TheVariants.{Load, Store, Binary, Move}
-use Rattle.dependence.specs.Operations.{OwnOperation, operand_seen, operation_seen}
-use Rattle.dependence.specs.Loops.{loop_seen}
+use Rattle.dependence.specs.Operations.{operand_seen, OwnOperation, operation_seen, operations_seen}
 use Rattle.listing.specs.declared.body.Body.{Body}
-use Rattle.listing.specs.Views.{loop_of, schedule_of, KnownOperand, KnownOperands}
+use Rattle.listing.specs.declared.place.Place.{Place}
+use Rattle.listing.specs.declared.placed.Placed.{Placed}
+use Rattle.listing.specs.Views.{loop_of, schedule_of, KnownOperand}
+use Rattle.listing.specs.Rows.{slot_of}
 use Rattle.text_laws.proofs.Formed.{well_formed}
+use Rattle.listing.specs.Placed.{operations_placed, PlacedAt, AllPlaced}
 
-pub count_is : (s : OwnLoop) → length (loop_seen s) ≡ s.count
-count_is s = length-map (take s.count s.operations) operation_seen ∙ length-take-le s.count s.operations (omega (arith, s.few, s.whole))
-
-pub seen_at : (s : OwnLoop) (j : ℕ) (d : OwnOperation) → j < s.count → operation_seen (get_or s.operations j d) ≡ op (loop_seen s) j
-unfolding op
-seen_at s j d h =
-    let short : length (take s.count s.operations) ≡ s.count = length-take-le s.count s.operations (omega (arith, s.few, s.whole)) in
-    ap operation_seen (sym (get_or-take s.count s.operations j d h)) ∙
-    sym (get_or-map operation_seen (take s.count s.operations) j d _ (omega arith))
-
--- What was put in at i, and below it.
-pub put_more : (f : ℕ → ℕ) (xs : List ℕ) (i x : ℕ) → length xs ≡ 32 → i < 32 → x ≡ f i → ((q : ℕ) → q < i → get_or xs q 0 ≡ f q) →
-    (q : ℕ) → q < i + 1 → get_or (set xs i x) q 0 ≡ f q
-put_more f xs i x long h here below q hq = elim (cases_eq q i) [
-  | inl e ↦ rw e (get_or-set_same xs i x 0 (omega arith) ∙ here)
-  | inr z ↦ get_or-set_other xs i q x 0 z ∙ below q (omega arith)
+pub placed_more : (ops : Loop) (w : Schedule) (ps : List Placed) (p : Placed) → AllPlaced ops w ps → PlacedAt ops w (length ps) p → AllPlaced ops w (ps ++ p ∷ [])
+placed_more ops w ps p all at j x h is = elim (cases_lt j (length ps)) [
+  | inl l ↦ all j x l (is ∙ get_or_append_left ps (p ∷ []) x j l)
+  | inr l ↦
+      let here : j ≡ length ps = omega (arith, length_push ps p) in
+      rw (here, is ∙ get_or_push ps p x j (sym here)) at
 ]
 
-pub number_more : (s : OwnLoop) (j m : ℕ) (d : OwnOperation) → j < s.count → m ≡ cond (makes (operation_seen (get_or s.operations j d))) 1 0 →
-    variable_number (loop_seen s) j + m ≡ variable_number (loop_seen s) (j + 1)
-number_more s j m d h e = rw (add-one, e, seen_at s j d h)
+pub operation_at : (os : List OwnOperation) (ops : Loop) (n : ℕ) (o : OwnOperation) → operations_seen os ≡ ops → n < length os → o ≡ get_or os n o → operation_seen o ≡ op ops n
+unfolding op
+operation_at os ops n o same h is = ap operation_seen is ∙ sym (get_or-map operation_seen os n o (move (literal (pos 0))) h) ∙ ap (λ xs. get_or xs n (move (literal (pos 0)))) same
 
-pub farthest_more : (s : OwnLoop) (j f m r : ℕ) (d : OwnOperation) → j < s.count → f ≡ farthest (loop_seen s) j →
-    m ≡ greatest distance (operation_seen (get_or s.operations j d)) → r ≡ max f m → r ≡ farthest (loop_seen s) (j + 1)
-unfolding farthest
-farthest_more s j f m r d h e g is = rw (add-one) (is ∙ ap₂ max e (g ∙ ap (greatest distance) (seen_at s j d h)))
+-- The first n operations are placed, and these are the variables that they define.
+pub record SoFar (ops : Loop) (w : Schedule) (n variables : ℕ) (ps : List Placed) : Type 0 where
+  pub count : length ps ≡ n
+  pub numbered : variables ≡ variable_number ops n
+  pub few : variables ≤ n
+  pub operations : operations_placed ps ≡ take n ops
+  pub standing : AllPlaced ops w ps
 
-pub depth_more : (w : Schedule) (j d x r : ℕ) → d ≡ stages w j → x ≡ stage w j → r ≡ max d (x + 1) → r ≡ stages w (j + 1)
-depth_more w j d x r e s is = rw add-one (is ∙ ap₂ (λ a b. max a (b + 1)) e s)
+at_most_one : (b : Bool) → cond b 1 0 ≤ 1
+at_most_one true = omega arith
+at_most_one false = omega arith
+
+pub place_next : (ops : Loop) (w : Schedule) (ps new : List Placed) (n variables made : ℕ) (p : Placed) → SoFar ops w n variables ps → new ≡ ps ++ p ∷ [] →
+    n < length ops → PlacedAt ops w n p → p.variable ≡ variables → made ≡ cond (makes (operation_seen p.operation)) 1 0 → SoFar ops w (n + 1) (variables + made) new
+unfolding op
+place_next ops w ps new n variables made p far new_is h at same made_is = record {
+  count = omega (arith, ap length new_is, length_push ps p, far.count);
+  numbered = rw (add-one, made_is, far.numbered, at.operation);
+  few = omega (arith, far.few, ap (λ m. m) made_is, at_most_one (makes (operation_seen p.operation)));
+  operations = ap operations_placed new_is ∙ map_push (λ q. operation_seen q.operation) ps p ∙ ap₂ (λ a b. a ++ b ∷ []) far.operations at.operation ∙ sym (take_more ops n (move (literal (pos 0))) h);
+  standing = rw new_is (placed_more ops w ps p far.standing (rw far.count at));
+}
+
+in_list : {A : Type 0} (xs : List A) (n : ℕ) → n < length xs → (x : A) × (x ≡ get_or xs n x)
+in_list [] n h = absurd (omega arith)
+in_list (x ∷ xs) n h = (get_or (x ∷ xs) n x, get_or_default (x ∷ xs) n x _ h)
+
+module _ {A : Type 0} (h : ℕ → A → ℕ) (f : ℕ → ℕ) (xs : List A) (none : f 0 ≡ 0) (more : (j : ℕ) (x : A) → j < length xs → x ≡ get_or xs j x → h (f j) x ≡ f (suc j)) where
+  folded_so_far : (n : ℕ) → n ≤ length xs → fold h 0 (take n xs) ≡ f n
+  folded_so_far zero le = sym none
+  folded_so_far (suc n) le =
+      let at = in_list xs n (omega arith) in
+      ap (λ m. fold h 0 (take m xs)) (sym (add-one n)) ∙ fold_more h 0 xs n at.0 (omega arith) ∙ ap₂ h (folded_so_far n (omega arith)) (sym at.1) ∙ more n at.0 (omega arith) at.1
+
+  -- A fold over a list, item by item.
+  folded : fold h 0 xs ≡ f (length xs)
+  folded = ap (fold h 0) (sym (take-length xs)) ∙ folded_so_far (length xs) (omega arith)
+
+module _ (w : Schedule) (ps : List Placed) (all : AllPlaced (operations_placed ps) w ps) where
+  count : length (operations_placed ps) ≡ length ps
+  count = length-map ps (λ p. operation_seen p.operation)
+
+  pub stages_folded : fold (λ d p. max d (p.stage + 1)) 0 ps ≡ stages w (length (operations_placed ps))
+  stages_folded =
+      folded (λ d p. max d (p.stage + 1)) (stages w) ps refl (λ j p h is. ap (λ s. max (stages w j) (s + 1)) (all j p h is).stage)
+      ∙ ap (stages w) (sym count)
+
+  pub farthest_folded : fold (λ d p. max d (greatest distance (operation_seen p.operation))) 0 ps ≡ farthest (operations_placed ps) (length (operations_placed ps))
+  unfolding farthest
+  farthest_folded =
+      folded (λ d p. max d (greatest distance (operation_seen p.operation))) (farthest (operations_placed ps)) ps refl
+      (λ j p h is. ap (λ o. max (farthest (operations_placed ps) j) (greatest distance o)) (all j p h is).operation)
+      ∙ ap (farthest (operations_placed ps)) (sym count)
 
 -- A machine on which every sound loop is well formed.
 abbrev one_cycle : Option Timing
@@ -63,75 +103,35 @@ a_machine = record {
   timings = one_cycle ∷ one_cycle ∷ one_cycle ∷ one_cycle ∷ one_cycle ∷ one_cycle ∷ [];
 }
 
-pub formed : (s : OwnLoop) → WellFormed (loop_seen s) (hardware a_machine (loop_seen s))
-formed s = well_formed a_machine (loop_seen s) refl s.sound
+pub formed : (b : Body) → WellFormed (loop_of b) (hardware a_machine (loop_of b))
+formed b = well_formed a_machine (loop_of b) refl b.sound
 
 known_operand : (ops : Loop) (q : ℕ) (a : OwnOperand) → Named ops q (operand_seen a) → KnownOperand (length ops) a
 known_operand ops q (Literal z) n = tt
 known_operand ops q (Variable p d) n = n.0
 
-known_operands : (ops : Loop) (q : ℕ) (o : OwnOperation) → EachOperand (Named ops q) (operation_seen o) → KnownOperands (length ops) o
+known_operands : (ops : Loop) (q : ℕ) (o : OwnOperation) → EachOperand (Named ops q) (operation_seen o) → EachOwn (KnownOperand (length ops)) o
 known_operands ops q (Load cell) n = tt
 known_operands ops q (Store a cell) n = known_operand ops q a n
 known_operands ops q (Binary f a b) n = (known_operand ops q a n.0, known_operand ops q b n.1)
 known_operands ops q (Move a) n = known_operand ops q a n
 
--- The operands of an operation of the loop name operations of the loop.
-pub known_at : (s : OwnLoop) (j : ℕ) (d : OwnOperation) → j < s.count → KnownOperands s.count (get_or s.operations j d)
-known_at s j d h =
-    let named = (formed s).named j (omega (arith, count_is s)) in
-    let own : EachOperand (Named (loop_seen s) j) (operation_seen (get_or s.operations j d)) = rw (seen_at s j d h) named in
-    rw (count_is s) at (known_operands (loop_seen s) j (get_or s.operations j d) own)
+module _ (b : Body) (ps : List Placed) (same : ps ≡ held b.placed) (j : ℕ) (p : Placed) (h : j < length ps) (is : p ≡ get_or ps j p) where
+  at : PlacedAt (loop_of b) (schedule_of b) j p
+  at = b.standing j p (rw same at h) (rw same at is)
 
--- When an operation issues.
-pub issues_yes : (b : Body) (j p r : ℕ) → j < 32 → get_or b.rows j 0 ≡ r → get_or b.stages j 0 ≤ p →
-    ltb (p - get_or b.stages j 0) b.trips ≡ issues_in (schedule_of b) b.trips j p r
-unfolding issues_in
-issues_yes b j p r h same begun = rw (← b.rowed j h, ← b.staged j h, eq-eqb _ _ same, le-leb _ _ begun)
+  -- Its operands name operations of the loop.
+  pub known_at : EachOwn (KnownOperand (length (loop_of b))) p.operation
+  known_at =
+      let named = (formed b).named j (omega (arith, ap length same, length-map (held b.placed) (λ q. operation_seen q.operation))) in
+      let own : EachOperand (Named (loop_of b) j) (operation_seen p.operation) = rw at.operation named in
+      known_operands (loop_of b) j p.operation own
 
-pub issues_no : (b : Body) (j p r : ℕ) → j < 32 → ((get_or b.rows j 0 ≡ r) × (get_or b.stages j 0 ≤ p) → ⊥) → false ≡ issues_in (schedule_of b) b.trips j p r
-unfolding issues_in
-issues_no b j p r h not_both = elim (cases_eq (get_or b.rows j 0) r) [
-  | inl e ↦
-      let late : p < get_or b.stages j 0 = elim (cases_lt p (get_or b.stages j 0)) [ inl l ↦ l | inr l ↦ absurd (not_both (e, l)) ] in
-      rw (← b.rowed j h, ← b.staged j h, eq-eqb _ _ e, lt-leb _ _ late)
-  | inr z ↦ rw (← b.rowed j h, ne_eqb _ _ z)
-]
+  -- When it issues, and as what.
+  pub issues_at : (q r : ℕ) → p.row == r && (leb p.stage q && ltb (q - p.stage) b.trips) ≡ issues_in (schedule_of b) b.trips j q r
+  unfolding issues_in
+  issues_at q r = rw (at.row, at.stage)
 
--- What an operation makes, by the number of values.
-pub makes_none : (s : OwnLoop) (j m : ℕ) (d : OwnOperation) → j < s.count → m ≡ cond (makes (operation_seen (get_or s.operations j d))) 1 0 → m ≡ 0 → makes (op (loop_seen s) j) ≡ false
-makes_none s j m d h e z = elim (cases_Bool (makes (op (loop_seen s) j))) [
-  | inl t ↦ let one : m ≡ 1 = e ∙ rw (seen_at s j d h, t) in absurd (omega arith)
-  | inr f ↦ f
-]
-
-pub makes_one : (s : OwnLoop) (j m : ℕ) (d : OwnOperation) → j < s.count → m ≡ cond (makes (operation_seen (get_or s.operations j d))) 1 0 → (m ≡ 0 → ⊥) → makes (op (loop_seen s) j) ≡ true
-makes_one s j m d h e z = elim (cases_Bool (makes (op (loop_seen s) j))) [
-  | inl t ↦ t
-  | inr f ↦ absurd (z (e ∙ rw (seen_at s j d h, f)))
-]
-
-module _ (b : Body) (name : ℕ → ℕ → ℕ → ℕ) where
-  pub result_none : (p j : ℕ) → makes (op (loop_of b) j) ≡ false → None ≡ result_in (loop_of b) (schedule_of b) name b.turns p j
-  result_none p j e = rw e
-
-  pub result_some : (p j r : ℕ) → j < b.source.count → makes (op (loop_of b) j) ≡ true → r ≡ name (get_or b.variables j 0) (p % b.turns) (get_or b.stages j 0) →
-      Some r ≡ result_in (loop_of b) (schedule_of b) name b.turns p j
-  result_some p j r h e is = rw e (ap Some (is ∙ ap₂ (λ v s. name v (p % b.turns) s) (b.numbered j h) (b.staged j (omega (arith, b.source.few)))))
-
-  -- A slot, part by part.
-  pub slot_is : (part : Part) (q p j row stage : ℕ) (result : Option ℕ) (o : Operation CodeSource) (d : OwnOperation) (s : listings.Slot) → j < b.source.count →
-      s ≡ slot_with part q row stage result o →
-      row ≡ get_or b.rows j 0 →
-      stage ≡ get_or b.stages j 0 →
-      result ≡ result_in (loop_of b) (schedule_of b) name b.turns p j →
-      o ≡ on_operands (operand_in (loop_of b) (schedule_of b) name b.turns p stage) (operation_seen (get_or b.source.operations j d)) →
-      s ≡ slot_in_pass (loop_of b) (schedule_of b) name b.turns part q p j
+  pub slot_at : (m : Meaning) (place : Place) → slot_of b m place p ≡ slot_in_pass (loop_of b) (schedule_of b) m.name b.turns place.part place.written place.pass j
   unfolding slot_in_pass
-  slot_is part q p j row stage result o d s h is r st res e =
-      let low : j < 32 = omega (arith, b.source.few) in
-      let staged = st ∙ b.staged j low in
-      let rowed = r ∙ b.rowed j low in
-      let whole : o ≡ operation_in (loop_of b) (schedule_of b) name b.turns p j =
-      e ∙ ap₂ (λ x y. on_operands (operand_in (loop_of b) (schedule_of b) name b.turns p x) y) staged (seen_at b.source j d h) in
-      is ∙ rw (rowed, staged, res, whole)
+  slot_at m place = rw (at.row, at.stage, at.variable, at.operation)

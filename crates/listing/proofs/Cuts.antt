@@ -1,36 +1,41 @@
 -- What is read from the slots between two starts is a row.
-use Rattle.std.proofs.Common.{◌≡◌, ℕ, zero, suc, ◌+◌, ◌-◌, ◌*◌, ◌<◌, ◌≤◌, ◌&&◌, ltb, List, [], ◌∷◌, ◌++◌, map, length, get_or, take, drop, Some, None, vec_items, vec_len, sym, refl, ap, ◌∙◌, ap₂, inl, inr, mul-le-mul_right, mod-lt, add-mul, mul-zero, add-one, arith}
+use Rattle.std.proofs.Common.{◌≡◌, ℕ, zero, suc, ◌+◌, ◌-◌, ◌*◌, ◌<◌, ◌≤◌, ◌&&◌, ltb, List, [], ◌∷◌, ◌++◌, map, length, get_or, take, drop, Some, None, Option, Bor, vec_items, vec_len, sym, refl, ap, ◌∙◌, ap₂, inl, inr, mul-le-mul_right, mod-lt, add-mul, mul-zero, add-one, arith}
 use Rattle.std.proofs.lemmas.List.{take_at, drop_at, drop-drop, length-append, length-map, take-map, drop-map}
 use Rattle.std.proofs.lemmas.Bool.{cases_Bool, cases_eq, cases_lt, and_parts, and_from, and_right, ltb-true, lt-ltb, le-ltb}
 use Rattle.model.specs.declared.Parts.{Parts}
+use Rattle.std.specs.List.{slice_get}
+use Rattle.std.specs.Option.{option_map, IfSome, MatchOption}
+use Rattle.std.proofs.lemmas.Option.{slice_get_past, slice_get-get_or, slice_get-map}
+use Rattle.std.proofs.lemmas.Simd.{map-map}
+use Rattle.model.specs.declared.Operator.TheVariants.{Plus, Minus, Times}
+use Rattle.model.specs.declared.Part.{Part}
+use Rattle.model.specs.Soundness.{code_of}
+use Rattle.operations.specs.declared.operation.Operation.{Operation}
+use Rattle.operations.specs.declared.operation.Operation.TheVariants.{Load, Store, Binary, Move}
+use Rattle.code.specs.declared.issue.Source.{Source}
+use Rattle.code.specs.declared.issue.Issue.{Issue}
+use Rattle.code.specs.Seen.{code_operation_seen, slot_seen as issue_seen, fetched}
 use Rattle.model.specs.Codes.{CodeSlot, gathered}
 use Rattle.model.specs.Listing as listings
-use Rattle.model.specs.Listing.{said, passes_run, passes_written, written_pass, code_of_listing, written_row}
+use Rattle.model.specs.Listing.{said, operation_by, left_of, right_of, stride_written, offset_written, slot_with, passes_run, passes_written, written_pass, code_of_listing, written_row}
 use Rattle.listing.specs.declared.slot.Slot.{Slot}
 use Rattle.listing.specs.declared.listing.Listing.{Listing}
 use Rattle.listing.specs.Views.{slot_seen}
 use Rattle.listing.specs.Kept.{all_slots, cuts, Keeps}
-use Rattle.listing.specs.Forms.{said_at, issued_at, row_number, start_of, rows_said}
+use Rattle.listing.specs.Forms.{issued_at, row_number, start_of, rows_said}
 
-abbrev told : Slot → CodeSlot
-told s = said (slot_seen s)
-
-shifted : (x : Slot) (xs : List Slot) (s n : ℕ) → gathered (said_at (x ∷ xs)) (suc s) n ≡ gathered (said_at xs) s n
+shifted : (x : CodeSlot) (xs : List CodeSlot) (s n : ℕ) → gathered (slice_get (x ∷ xs)) (suc s) n ≡ gathered (slice_get xs) s n
 unfolding gathered
 shifted x xs s zero = refl
 shifted x xs s (suc n) = rw (shifted x xs (suc s) n)
 
-gathered_is : (xs : List Slot) (s n : ℕ) → s + n ≤ length xs → gathered (said_at xs) s n ≡ map told (take n (drop s xs))
+gathered_is : (xs : List CodeSlot) (s n : ℕ) → s + n ≤ length xs → gathered (slice_get xs) s n ≡ take n (drop s xs)
 unfolding gathered
 gathered_is xs s zero h = refl
 gathered_is [] zero (suc n) h = absurd (omega arith)
 gathered_is [] (suc s) (suc n) h = absurd (omega arith)
-gathered_is (x ∷ xs) zero (suc n) h = ap (λ ys. told x ∷ ys) (shifted x xs 0 n ∙ gathered_is xs 0 n (omega arith))
+gathered_is (x ∷ xs) zero (suc n) h = ap (λ ys. x ∷ ys) (shifted x xs 0 n ∙ gathered_is xs 0 n (omega arith))
 gathered_is (x ∷ xs) (suc s) (suc n) h = shifted x xs s (suc n) ∙ gathered_is xs s (suc n) (omega arith)
-
-map_told : (xs : List Slot) → map told xs ≡ map said (map slot_seen xs)
-map_told [] = refl
-map_told (x ∷ xs) = ap (λ ys. told x ∷ ys) (map_told xs)
 
 cuts_first : (b : ℕ) (rows : List (List listings.Slot)) → get_or (cuts b rows) 0 0 ≡ b
 cuts_first b [] = refl
@@ -94,10 +99,11 @@ row_read l rows p g k h =
     let s_is : start_of l g ≡ s = ap (λ zs. get_or zs g 0) k.starts in
     let e_is : start_of l (g + 1) ≡ e = ap₂ (λ zs n. get_or zs n 0) k.starts (add-one g) in
     let none : s - 0 ≡ s = omega arith in
-    let long : s + (e - s) ≤ length xs = omega (arith, c.within, c.forward, ap length k.slots, length-map xs slot_seen) in
-    ap₂ (λ a b. gathered (said_at xs) a (b - a)) s_is e_is ∙ gathered_is xs s (e - s) long ∙ map_told (take (e - s) (drop s xs)) ∙
-    ap (map said) (sym (take-map slot_seen (e - s) (drop s xs)) ∙ ap (take (e - s)) (sym (drop-map slot_seen s xs) ∙ ap (drop s) k.slots) ∙
-    ap (λ n. take (e - s) (drop n (all_slots rows))) (sym none) ∙ c.is)
+    let all : map (λ z. said (slot_seen z)) xs ≡ map said (all_slots rows) = sym (map-map said slot_seen xs) ∙ ap (map said) k.slots in
+    let long : s + (e - s) ≤ length (map said (all_slots rows)) = omega (arith, c.within, c.forward, length-map (all_slots rows) said) in
+    ap₂ (λ a b. gathered (slice_get (map (λ z. said (slot_seen z)) xs)) a (b - a)) s_is e_is ∙ ap (λ zs. gathered (slice_get zs) s (e - s)) all ∙
+    gathered_is (map said (all_slots rows)) s (e - s) long ∙ ap (take (e - s)) (drop-map said s (all_slots rows)) ∙ take-map said (e - s) (drop s (all_slots rows)) ∙
+    ap (map said) (ap (λ n. take (e - s) (drop n (all_slots rows))) (sym none) ∙ c.is)
 
 -- A listing of the code says what a listing of the definitions says, if it keeps its rows.
 pub says_same : (l : Listing) (d : listings.Listing) → Keeps l.rows d.rows → l.parts ≡ d.parts → l.interval ≡ d.interval →
@@ -135,12 +141,20 @@ row_said l p r n s e hp hr is s_is e_is =
     rw (and_from _ _ (lt-ltb _ _ hp) (lt-ltb _ _ hr), ← is, s_is, e_is)
 
 -- What is at a place.
-pub said_past : (xs : List Slot) (n : ℕ) → length xs ≤ n → None ≡ said_at xs n
-said_past [] n h = refl
-said_past (x ∷ xs) zero h = absurd (omega arith)
-said_past (x ∷ xs) (suc n) h = said_past xs n (omega arith)
+operation_said : (o : Operation Source) → operation_by (code_of (code_operation_seen o)) (left_of (code_operation_seen o)) (right_of (code_operation_seen o)) (stride_written (code_operation_seen o)) (offset_written (code_operation_seen o)) ≡ code_operation_seen o
+operation_said (Load c) = refl
+operation_said (Store a c) = refl
+operation_said (Binary Plus a b) = refl
+operation_said (Binary Minus a b) = refl
+operation_said (Binary Times a b) = refl
+operation_said (Move a) = refl
 
-pub said_here : (xs : List Slot) (n : ℕ) (s d : Slot) (t : CodeSlot) → n < length xs → s ≡ get_or xs n d → t ≡ told s → Some t ≡ said_at xs n
-said_here [] n s d t h e is = absurd (omega arith)
-said_here (x ∷ xs) zero s d t h e is = ap Some (is ∙ ap told e)
-said_here (x ∷ xs) (suc n) s d t h e is = said_here xs n s d t (omega arith) e is
+issue_said : (i : Issue) (part : Part) (pass row : ℕ) → said (slot_with part pass row i.stage i.result (code_operation_seen i.operation)) ≡ issue_seen i
+issue_said i part pass row = ap (λ o. record { operation = o; stage = i.stage; result = i.result }) (operation_said i.operation)
+
+pub fetched_at : (xs : List Slot) (n : ℕ) (got : Option (Bor Slot)) → IfSome got (λ x. x.now ≡ get_or xs n x.now) →
+    MatchOption got (length xs ≤ n) (λ x. n < length xs) → fetched (option_map (λ x. x.now.issue) got) ≡ slice_get (map (λ s. said (slot_seen s)) xs) n
+fetched_at xs n None is there = sym (slice_get-map (λ s. said (slot_seen s)) xs n ∙ ap (option_map (λ s. said (slot_seen s))) (slice_get_past xs n there))
+fetched_at xs n (Some x) is there =
+    sym (slice_get-map (λ s. said (slot_seen s)) xs n ∙ ap (option_map (λ s. said (slot_seen s))) (slice_get-get_or xs n x.now there ∙ ap Some (sym is))
+    ∙ ap Some (issue_said x.now.issue x.now.part x.now.pass x.now.row))

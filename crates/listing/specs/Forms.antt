@@ -1,19 +1,14 @@
 -- What a listing of the code says of each row of each pass.
-use Rattle.std.specs.Prelude.{ℕ, zero, suc, ◌+◌, ◌-◌, ◌*◌, cond, ◌&&◌, List, [], ◌∷◌, Some, None, vec_items, Option, nat_lt, slice_index}
+use Rattle.std.specs.Prelude.{ℕ, ◌+◌, ◌-◌, ◌*◌, cond, ◌&&◌, [], map, vec_items, Option, nat_lt, slice_index}
+use Rattle.std.specs.List.{slice_get}
 use Rattle.model.specs.Codes.{CodeSlot, CodeRows, gathered}
 use Rattle.model.specs.Listing.{said, passes_run, written_pass}
-use Rattle.listing.specs.declared.slot.Slot.{Slot}
 use Rattle.listing.specs.declared.listing.Listing.{Listing}
 use Rattle.listing.specs.Views.{slot_seen}
 
--- What the slot at a place says.
-abbrev pub said_at : List Slot → ℕ → Option CodeSlot
-said_at [] n = None
-said_at (s ∷ slots) zero = Some (said (slot_seen s))
-said_at (s ∷ slots) (suc n) = said_at slots n
-
+-- What the slot at a place says, the same in each pass.
 abbrev pub issued_at : Listing → ℕ → ℕ → Option CodeSlot
-issued_at l p place = said_at (vec_items l.rows.slots) place
+issued_at l p place = slice_get (map (λ s. said (slot_seen s)) (vec_items l.rows.slots)) place
 
 -- The number of the row that stands for row r of pass p, and where it starts.
 abbrev pub row_number : Listing → ℕ → ℕ → ℕ

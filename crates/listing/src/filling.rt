@@ -2,7 +2,7 @@
 ghost use Rattle.std.specs.Prelude.{◌≡◌, ℕ, List, [], IfOk};
 ghost use Rattle.model.specs.Listing.{all_front};
 ghost use Rattle.dependence.specs.Loops.{loop_seen};
-ghost use Rattle.listing.specs.Schedules.{schedule};
+ghost use Rattle.timing.specs.Seen.{schedule_seen};
 ghost use Rattle.listing.specs.Forms.{rows_said};
 ghost use Rattle.listing.specs.Written.{Answered, Meant};
 
@@ -15,6 +15,7 @@ use dependence::loops::Loop;
 use model::Parts;
 use registers::scheme::Scheme;
 use std::alloc::{AllocError, Global};
+use timing::Schedule;
 
 // The most slots; and the most rows, of 36 passes at interval 256, with the end of the last.
 const SLOTS: usize = 1152;
@@ -49,25 +50,24 @@ impl Listing {
     pub fn write<S: Scheme>(
         &mut self,
         source: &Loop,
-        times: &[u16; 32],
-        interval: usize,
+        schedule: &Schedule,
         scheme: &S,
         turns: usize,
         trips: usize,
     ) -> Result<(), Unwritable>
-        ensures written { Answered self.old self.new (loop_seen source.now) (schedule interval times.now) (S.meaning scheme.now).name turns trips result }
-        ensures means { Meant self.new (loop_seen source.now) (schedule interval times.now) (S.meaning scheme.now) turns trips result }
+        ensures written { Answered self.old self.new (loop_seen source.now) (schedule_seen schedule.now) (S.meaning scheme.now).name turns trips result }
+        ensures means { Meant self.new (loop_seen source.now) (schedule_seen schedule.now) (S.meaning scheme.now) turns trips result }
     {
-        if interval < 1 || interval > 256 {
+        if !(1..=256).contains(&schedule.interval) {
             return Err(Unwritable::Interval);
         }
-        if turns < 1 || turns > 8 {
+        if !(1..=8).contains(&turns) {
             return Err(Unwritable::Turns);
         }
         if trips > 4096 {
             return Err(Unwritable::Trips);
         }
-        let body = Body::new(source, times, interval, turns, trips);
+        let body = Body::new(source, schedule, turns, trips);
         let stages = body.depth();
         if stages > 8 {
             return Err(Unwritable::Stages);
@@ -76,7 +76,7 @@ impl Listing {
         self.rows.write(&body, scheme, parts);
         self.parts = parts;
         self.trips = trips;
-        self.interval = interval;
+        self.interval = schedule.interval;
         Ok(())
     }
 }

@@ -6,6 +6,8 @@ pub mod filling;
 pub mod listing;
 pub mod naming;
 pub mod parts;
+pub mod place;
+pub mod placed;
 pub mod preparing;
 pub mod reading;
 pub mod refusal;

@@ -1,58 +1,48 @@
 // How a loop in its schedule is prepared for writing, and how deep and how far back it goes.
-ghost use Rattle.std.specs.Prelude.{◌≡◌, ℕ, ◌/◌, ◌%◌, ◌<◌, ◌≤◌, if◌then◌else◌, slice_index};
-ghost use Rattle.model.specs.Loop.{makes};
+ghost use Rattle.std.specs.Prelude.{◌≡◌, ℕ, ◌≤◌, length};
+ghost use Rattle.few.specs.Held.{held};
 ghost use Rattle.model.specs.Schedule.{stages as stages_of};
-ghost use Rattle.model.specs.Issues.{variable_number};
 ghost use Rattle.model.specs.ScheduleLives.{greatest};
 ghost use Rattle.model.specs.Listing.{distance as distance_of, farthest as farthest_of};
+ghost use Rattle.timing.specs.Seen.{schedule_seen};
 ghost use Rattle.dependence.specs.Operations.{operand_seen, operation_seen};
 ghost use Rattle.dependence.specs.Loops.{loop_seen};
+ghost use Rattle.listing.specs.Placed.{operations_placed, AllPlaced};
 ghost use Rattle.listing.specs.Views.{loop_of, schedule_of};
 
 use crate::body::Body;
+use crate::placed::Placed;
 use dependence::loops::Loop;
 use dependence::operation::{Operand, Operation};
-use timing::stage_and_row;
+use few::Few;
+use timing::{Schedule, stage_and_row};
 
-// 1 if it makes a value, and 0 if not.
-pub(crate) fn values_made(operation: Operation) -> usize
-    ensures value { result ≡ (if makes (operation_seen operation) then 1 else 0) }
-    ensures bound { result ≤ 1 }
+// Each operation of a loop with its place in a schedule.
+fn place_all(source: &Loop, schedule: &Schedule) -> Few<Placed, 32>
+    ensures operations { operations_placed (held result) ≡ loop_seen source.now }
+    ensures standing { AllPlaced (loop_seen source.now) (schedule_seen schedule.now) (held result) }
 {
-    match operation {
-        Operation::Load(_) => 1,
-        Operation::Store(_, _) => 0,
-        Operation::Binary(_, _, _) => 1,
-        Operation::Move(_) => 1,
+    let mut all = Few::new(Placed {
+        operation: Operation::Move(Operand::Literal(0)),
+        variable: 0,
+        stage: 0,
+        row: 0,
+    });
+    let mut variable = 0usize;
+    for (operation, time) in source.operations().iter().zip(&schedule.times) {
+        let (stage, row) = stage_and_row(usize::from(*time), schedule.interval);
+        let placed = Placed {
+            operation: *operation,
+            variable,
+            stage,
+            row,
+        };
+        let Ok(()) = all.push(placed) else {
+            unreachable!();
+        };
+        variable += usize::from(operation.makes());
     }
-}
-
-// Of each operation the number of variables that are defined before it.
-fn variable_numbers(source: &Loop) -> [usize; 32]
-    ensures { (j : ℕ) → j < source.now.count → slice_index result j ≡ variable_number (loop_seen source.now) j }
-{
-    let mut numbers = [0usize; 32];
-    let mut next = 0usize;
-    for j in 0..source.count {
-        numbers[j] = next;
-        next += values_made(source.operations[j]);
-    }
-    numbers
-}
-
-// The stage and the row of each operation.
-fn stages_and_rows(times: &[u16; 32], interval: usize) -> ([usize; 32], [usize; 32])
-    ensures stages { (j : ℕ) → j < 32 → slice_index result.0 j ≡ slice_index times.now j / interval }
-    ensures rows { (j : ℕ) → j < 32 → slice_index result.1 j ≡ slice_index times.now j % interval }
-{
-    let mut stages = [0usize; 32];
-    let mut rows = [0usize; 32];
-    for j in 0..32 {
-        let (stage, row) = stage_and_row(usize::from(times[j]), interval);
-        stages[j] = stage;
-        rows[j] = row;
-    }
-    (stages, rows)
+    all
 }
 
 fn distance(operand: Operand) -> usize
@@ -76,53 +66,43 @@ fn greatest_distance(operation: Operation) -> usize
 }
 
 impl Body {
-    pub(crate) fn new(
-        source: &Loop,
-        times: &[u16; 32],
-        interval: usize,
-        turns: usize,
-        trips: usize,
-    ) -> Body
+    pub(crate) fn new(source: &Loop, schedule: &Schedule, turns: usize, trips: usize) -> Body
         requires { 1 ≤ turns }
-        ensures source { result.source ≡ source.now }
-        ensures times { result.times ≡ times.now }
-        ensures interval { result.interval ≡ interval }
+        ensures source { loop_of result ≡ loop_seen source.now }
+        ensures schedule { result.schedule ≡ schedule.now }
         ensures turns { result.turns ≡ turns }
         ensures trips { result.trips ≡ trips }
     {
-        let (stages, rows) = stages_and_rows(times, interval);
         Body {
-            source: *source,
-            times: *times,
-            interval,
+            placed: place_all(source, schedule),
+            schedule: *schedule,
             turns,
             trips,
-            variables: variable_numbers(source),
-            stages,
-            rows,
         }
+    }
+
+    // The operations in their places, in text order.
+    pub(crate) fn placed(&self) -> &[Placed]
+        ensures { result.now ≡ held self.now.placed }
+    {
+        self.placed.as_slice()
     }
 
     // The number of stages.
     pub(crate) fn depth(&self) -> usize
-        requires { 1 ≤ self.now.interval }
-        ensures { result ≡ stages_of (schedule_of self.now) self.now.source.count }
+        ensures { result ≡ stages_of (schedule_of self.now) (length (loop_of self.now)) }
     {
-        let mut depth = 0usize;
-        for j in 0..self.source.count {
-            depth = depth.max(self.stages[j] + 1);
-        }
-        depth
+        self.placed()
+            .iter()
+            .fold(0, |depth, placed| depth.max(placed.stage + 1))
     }
 
     // The greatest distance of an operand.
     pub(crate) fn farthest(&self) -> usize
-        ensures { result ≡ farthest_of (loop_of self.now) self.now.source.count }
+        ensures { result ≡ farthest_of (loop_of self.now) (length (loop_of self.now)) }
     {
-        let mut farthest = 0usize;
-        for j in 0..self.source.count {
-            farthest = farthest.max(greatest_distance(self.source.operations[j]));
-        }
-        farthest
+        self.placed().iter().fold(0, |farthest, placed| {
+            farthest.max(greatest_distance(placed.operation))
+        })
     }
 }

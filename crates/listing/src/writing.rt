@@ -1,12 +1,12 @@
 // How rows are written: operation by operation, row by row, pass by pass.
-ghost use Rattle.std.specs.Prelude.{◌≡◌, ℕ, ◌+◌, ◌≤◌, List, [], ◌∷◌, ◌++◌, map, length, vec_len, vec_capacity};
-ghost use Rattle.model.specs.Edges.{each};
-ghost use Rattle.model.specs.Listing.{row_of, rows_of_pass, rows_of, parts_of, passes_run};
+ghost use Rattle.std.specs.Prelude.{◌≡◌, ◌+◌, ◌≤◌, [], ◌∷◌, ◌++◌, map, length, vec_len, vec_capacity};
+ghost use Rattle.model.specs.Listing.{parts_of, passes_run};
 ghost use Rattle.listing.specs.Views.{slot_seen, loop_of, schedule_of};
 ghost use Rattle.listing.specs.Kept.{all_slots, Keeps, Room, Appended};
+ghost use Rattle.listing.specs.Rows.{slots_of_row, rows_of_place, rows_of_passes, all_rows};
 
 use crate::body::Body;
-use crate::naming::Place;
+use crate::place::Place;
 use crate::rows::Rows;
 use crate::slot::Slot;
 use model::{Part, Parts};
@@ -14,32 +14,32 @@ use registers::scheme::Scheme;
 
 // Puts the slots of a row of a pass behind the others.
 fn push_slots<S: Scheme>(slots: &mut Vec<Slot>, body: &Body, scheme: &S, place: Place, row: usize)
-    requires { vec_len slots.old + length (row_of (loop_of body.now) (schedule_of body.now) (S.meaning scheme.now).name body.now.turns body.now.trips place.part place.written place.pass row) ≤ vec_capacity slots.old }
-    ensures items { map slot_seen slots.new.items ≡ map slot_seen slots.old.items ++ row_of (loop_of body.now) (schedule_of body.now) (S.meaning scheme.now).name body.now.turns body.now.trips place.part place.written place.pass row }
-    ensures len { vec_len slots.new ≡ vec_len slots.old + length (row_of (loop_of body.now) (schedule_of body.now) (S.meaning scheme.now).name body.now.turns body.now.trips place.part place.written place.pass row) }
+    requires { vec_len slots.old + length (slots_of_row body.now (S.meaning scheme.now) place row) ≤ vec_capacity slots.old }
+    ensures items { map slot_seen slots.new.items ≡ map slot_seen slots.old.items ++ slots_of_row body.now (S.meaning scheme.now) place row }
+    ensures len { vec_len slots.new ≡ vec_len slots.old + length (slots_of_row body.now (S.meaning scheme.now) place row) }
     ensures capacity { vec_capacity slots.new ≡ vec_capacity slots.old }
 {
-    for operation in 0..body.source.count {
-        if body.issues(operation, place.pass, row) {
-            slots.push_reserved(body.slot(scheme, place, operation));
+    for placed in body.placed() {
+        if placed.issues(body.trips, place.pass, row) {
+            slots.push_reserved(body.slot(scheme, place, placed));
         }
     }
 }
 
 impl Rows {
     fn push_row<S: Scheme>(&mut self, body: &Body, scheme: &S, place: Place, row: usize)
-        requires { Room self.old (row_of (loop_of body.now) (schedule_of body.now) (S.meaning scheme.now).name body.now.turns body.now.trips place.part place.written place.pass row ∷ []) }
-        ensures { Appended self.old self.new (row_of (loop_of body.now) (schedule_of body.now) (S.meaning scheme.now).name body.now.turns body.now.trips place.part place.written place.pass row ∷ []) }
+        requires { Room self.old (slots_of_row body.now (S.meaning scheme.now) place row ∷ []) }
+        ensures { Appended self.old self.new (slots_of_row body.now (S.meaning scheme.now) place row ∷ []) }
     {
         push_slots(&mut self.slots, body, scheme, place, row);
         self.starts.push_reserved(self.slots.len());
     }
 
     fn push_pass<S: Scheme>(&mut self, body: &Body, scheme: &S, place: Place)
-        requires { Room self.old (rows_of_pass (loop_of body.now) (schedule_of body.now) (S.meaning scheme.now).name body.now.turns body.now.trips place.part place.written place.pass) }
-        ensures { Appended self.old self.new (rows_of_pass (loop_of body.now) (schedule_of body.now) (S.meaning scheme.now).name body.now.turns body.now.trips place.part place.written place.pass) }
+        requires { Room self.old (rows_of_place body.now (S.meaning scheme.now) place) }
+        ensures { Appended self.old self.new (rows_of_place body.now (S.meaning scheme.now) place) }
     {
-        for row in 0..body.interval {
+        for row in 0..body.schedule.interval {
             self.push_row(body, scheme, place, row);
         }
     }
@@ -54,8 +54,8 @@ impl Rows {
         passes: usize,
     )
         requires few { first + passes ≤ 65535 }
-        requires room { Room self.old (each (λ q. rows_of_pass (loop_of body.now) (schedule_of body.now) (S.meaning scheme.now).name body.now.turns body.now.trips part q (first + q)) passes) }
-        ensures { Appended self.old self.new (each (λ q. rows_of_pass (loop_of body.now) (schedule_of body.now) (S.meaning scheme.now).name body.now.turns body.now.trips part q (first + q)) passes) }
+        requires room { Room self.old (rows_of_passes body.now (S.meaning scheme.now) part first passes) }
+        ensures { Appended self.old self.new (rows_of_passes body.now (S.meaning scheme.now) part first passes) }
     {
         for written in 0..passes {
             let place = Place {
@@ -82,10 +82,10 @@ impl Rows {
     pub(crate) fn write<S: Scheme>(&mut self, body: &Body, scheme: &S, parts: Parts)
         requires parts { parts ≡ parts_of (loop_of body.now) (schedule_of body.now) body.now.turns body.now.trips }
         requires few { passes_run parts + parts.kernel ≤ 65535 }
-        requires slots { length (all_slots (rows_of (loop_of body.now) (schedule_of body.now) (S.meaning scheme.now).name body.now.turns body.now.trips)) ≤ 1152 }
-        requires rows { length (rows_of (loop_of body.now) (schedule_of body.now) (S.meaning scheme.now).name body.now.turns body.now.trips) ≤ 9216 }
-        ensures keeps { Keeps self.new (rows_of (loop_of body.now) (schedule_of body.now) (S.meaning scheme.now).name body.now.turns body.now.trips) }
-        ensures starts { vec_len self.new.starts ≡ length (rows_of (loop_of body.now) (schedule_of body.now) (S.meaning scheme.now).name body.now.turns body.now.trips) + 1 }
+        requires slots { length (all_slots (all_rows body.now (S.meaning scheme.now))) ≤ 1152 }
+        requires rows { length (all_rows body.now (S.meaning scheme.now)) ≤ 9216 }
+        ensures keeps { Keeps self.new (all_rows body.now (S.meaning scheme.now)) }
+        ensures starts { vec_len self.new.starts ≡ length (all_rows body.now (S.meaning scheme.now)) + 1 }
     {
         self.clear();
         self.push_part(body, scheme, Part::Front, 0, parts.front);

@@ -1,49 +1,37 @@
-use Rattle.std.proofs.Common.{◌≡◌, sym, arith}
-use Rattle.listing.proofs.Appending.{issuing_yes, issuing_no, issuing_all, issuing_room, begun, grown_none}
+use Rattle.std.proofs.Common.{◌≡◌, length, arith}
+use Rattle.listing.proofs.Bodies.{known_at}
+use Rattle.listing.proofs.Appending.{issuing_yes, issuing_no, issuing_all, issuing_room}
 use Rattle.listing.proofs.writing.push_slots.Goals as goal
 use Rattle.listing.proofs.writing.push_slots.Goals.{then-issues, else-issues}
 
-pub loop-operation-init : goal.loop-operation-init
-loop-operation-init g c = grown_none c.args.slots.now
-
-pub slot-requires : goal.slot-requires
-slot-requires g c =
-    let b = c.args.body.now in
-    let j = c.loop-operation.operation in
-    let name = (g.S.Scheme.meaning c.args.scheme.now).name in
-    record {
-      known = c.loop-operation-test.true;
-      begun = omega (
-        arith,
-        b.staged j (omega (arith, c.loop-operation-test.true, b.source.few)),
-        begun b name c.args.place.part c.args.place.written c.args.place.pass c.args.row j (sym c.if-issues.ensures),
-      );
-    }
+pub slot-requires-clause-known : goal.slot-requires-clause-known
+slot-requires-clause-known g c =
+    known_at c.args.body.now c.placed-placed-items.result.now c.placed-placed-items.ensures c.loop-placed.placed-index c.placed-item.result c.loop-placed-test.true c.placed-item.is
 
 pub push_reserved-requires : goal.push_reserved-requires
 push_reserved-requires g c =
-    issuing_room c.args.body.now (g.S.Scheme.meaning c.args.scheme.now).name c.args.place.part c.args.place.written c.args.place.pass c.args.row
-    c.args.slots.now c.loop-operation.slots c.loop-operation.operation c.loop-operation.invariant (sym c.if-issues.ensures) c.loop-operation-test.true c.requires
+    issuing_room c.args.body.now (g.S.Scheme.meaning c.args.scheme.now) c.args.place c.args.row c.placed-placed-items.result.now c.placed-placed-items.ensures
+    c.loop-placed.placed-index c.placed-item.result c.loop-placed-test.true c.placed-item.is
+    c.args.slots.now c.loop-placed.slots c.loop-placed.invariant c.if-issues.ensures c.requires
 
-pub loop-operation-preserved : goal.loop-operation-preserved
-loop-operation-preserved g c =
+pub loop-placed-preserved : goal.loop-placed-preserved
+loop-placed-preserved g c =
     let b = c.args.body.now in
-    let name = (g.S.Scheme.meaning c.args.scheme.now).name in
-    let pl = c.args.place in
+    let m = g.S.Scheme.meaning c.args.scheme.now in
+    let ps = c.placed-placed-items in
     elim c.if-issues.branch [
       | then-issues w ↦
-          issuing_yes b name pl.part pl.written pl.pass c.args.row c.args.slots.now c.loop-operation.slots w.push_reserved.new.self c.if-issues.slots w.slot.result
-          c.loop-operation.operation w.slots-is c.loop-operation.invariant (sym w.if-issues.ensures) w.push_reserved.ensures.items w.push_reserved.ensures.len
-          w.push_reserved.ensures.capacity w.slot.ensures
+          issuing_yes b m c.args.place c.args.row ps.result.now ps.ensures c.loop-placed.placed-index c.placed-item.result c.loop-placed-test.true c.placed-item.is
+          c.args.slots.now c.loop-placed.slots w.push_reserved.new.self c.if-issues.slots w.slot.result w.slots-is c.loop-placed.invariant w.if-issues.ensures
+          w.push_reserved.ensures.items w.push_reserved.ensures.len w.push_reserved.ensures.capacity w.slot.ensures
       | else-issues w ↦
-          issuing_no b name pl.part pl.written pl.pass c.args.row c.args.slots.now c.loop-operation.slots c.if-issues.slots c.loop-operation.operation
-          w.slots-is c.loop-operation.invariant (sym w.if-issues.ensures)
+          issuing_no b m c.args.place c.args.row ps.result.now ps.ensures c.loop-placed.placed-index c.placed-item.result c.loop-placed-test.true c.placed-item.is
+          c.args.slots.now c.loop-placed.slots c.if-issues.slots w.slots-is c.loop-placed.invariant w.if-issues.ensures
     ]
 
 pub returns : goal.returns
 returns g c =
-    let pl = c.args.place in
-    let end : c.loop-operation.operation ≡ c.args.body.now.source.count = omega (arith, c.loop-operation.auto.operation-end, c.loop-operation-test.false) in
-    let all = issuing_all c.args.body.now (g.S.Scheme.meaning c.args.scheme.now).name pl.part pl.written pl.pass c.args.row c.args.slots.now c.loop-operation.slots
-    c.loop-operation.operation end c.loop-operation.invariant in
+    let end : c.loop-placed.placed-index ≡ length c.placed-placed-items.result.now = omega (arith, c.loop-placed.auto.placed-index-end, c.loop-placed-test.false) in
+    let all = issuing_all c.args.body.now (g.S.Scheme.meaning c.args.scheme.now) c.args.place c.args.row c.args.slots.now c.loop-placed.slots
+    c.loop-placed.placed-index (rw c.placed-placed-items.ensures at end) c.loop-placed.invariant in
     record { items = all.items; len = all.len; capacity = all.cap }

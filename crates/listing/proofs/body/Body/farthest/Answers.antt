@@ -1,19 +1,14 @@
-use Rattle.std.proofs.Common.{◌≡◌, refl, ap, ◌∙◌, arith}
-use Rattle.model.specs.Listing.{farthest}
-use Rattle.listing.specs.Views.{loop_of}
-use Rattle.listing.proofs.Bodies.{farthest_more}
+use Rattle.std.proofs.Common.{◌≡◌, max, fold, ◌∙◌, rules}
+use Rattle.few.specs.Held.{held}
+use Rattle.model.specs.ScheduleLives.{greatest}
+use Rattle.model.specs.Listing.{distance}
+use Rattle.dependence.specs.Operations.{operation_seen}
+use Rattle.listing.specs.Views.{schedule_of}
+use Rattle.listing.proofs.Bodies.{farthest_folded}
 use Rattle.listing.proofs.body.Body.farthest.Goals as goal
-
-pub loop-j-init : goal.loop-j-init
-unfolding farthest
-loop-j-init c = refl
-
-pub loop-j-preserved : goal.loop-j-preserved
-loop-j-preserved c =
-    farthest_more c.args.self.now.source c.loop-j.j c.loop-j.farthest c.greatest_distance.result c.max-farthest.result _ c.loop-j-test.true
-    c.loop-j.invariant c.greatest_distance.ensures c.max-farthest.ensures
 
 pub returns : goal.returns
 returns c =
-    let end : c.loop-j.j ≡ c.args.self.now.source.count = omega (arith, c.loop-j.auto.j-end, c.loop-j-test.false) in
-    c.loop-j.invariant ∙ ap (farthest (loop_of c.args.self.now)) end
+    let b = c.args.self.now in
+    let mirrored : c.fold.result ≡ fold (λ d p. max d (greatest distance (operation_seen p.operation))) 0 (held b.placed) = search rules in
+    mirrored ∙ farthest_folded (schedule_of b) (held b.placed) b.standing

@@ -10,12 +10,6 @@ returns-then-pass-passes c = elim c.then-pass-passes.branch [
   | then-pass-passes-via-else-pass-passes+then-row-self w ↦ too_low c.args.self.now c.args.pass c.args.row w.if-row-self.true
 ]
 
-pub index-requires : goal.index-requires
-index-requires c = omega (arith, start_there c.args.self.now c.written_pass.result c.args.row c.written_pass.ensures.bound c.if-row-self.false)
-
-pub index-requires-2 : goal.index-requires-2
-index-requires-2 c = start_there c.args.self.now c.written_pass.result c.args.row c.written_pass.ensures.bound c.if-row-self.false
-
 pub returns : goal.returns
 returns c =
     let l = c.args.self.now in
