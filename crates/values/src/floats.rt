@@ -29,8 +29,6 @@ impl Domain for Floats {
 }
 
 // The float of a literal is the literal itself: no rounding.
-pub fn literals_exact() -> u8
+pub fn literals_exact()
     ensures { LiteralsExact }
-{
-    0
-}
+{}
