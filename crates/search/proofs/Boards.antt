@@ -1,5 +1,8 @@
 -- Boards stay sound.
-use Rattle.std.proofs.Common.{◌≡◌, ℕ, zero, suc, ◌+◌, ◌<◌, ◌≤◌, max, Bool, true, false, cond, ◌&&◌, ◌||◌, eqb, List, length, get_or, Some, None, Option, unwrap_or, sym, refl, ap, ◌∙◌, subst, ap₂, subst₂, add-one, inl, inr, arith}
+use Rattle.std.proofs.Common.{◌≡◌, ℕ, zero, suc, ◌+◌, ◌<◌, ◌≤◌, max, Bool, true, false, cond, ◌&&◌, ◌||◌, eqb, List, [], ◌∷◌, length, get_or, Some, None, Option, unwrap_or, sym, refl, ap, ◌∙◌, subst, ap₂, subst₂, add-one, zero-add, inl, inr, arith}
+use Rattle.std.specs.List.{fold, range_with_len}
+use Rattle.std.proofs.lemmas.List.Sums.{fold-append}
+use Rattle.reservation.proofs.Cells.{range_more}
 use Rattle.std.proofs.lemmas.Bool.{and_from, cases_lt}
 use Rattle.model.specs.declared.Timing.{Timing}
 use Rattle.model.specs.Limits.{timing, hardware}
@@ -86,6 +89,16 @@ early_more weights time j q = rw add-one
 pub early_none : (weights : ℕ → ℕ → ℕ) (time : Times) (j : ℕ) → 0 ≡ early_by weights time j 0
 unfolding early_by
 early_none weights time j = refl
+
+-- what an operation asks of the early time of another
+abbrev pub asked_from : (ℕ → ℕ → ℕ) → Times → ℕ → ℕ → ℕ
+asked_from weights time j q = cond (eqb q j) 0 (asked (weights q j) (time q))
+
+pub greatest_asked : (weights : ℕ → ℕ → ℕ) (time : Times) (j n : ℕ) → fold (λ a q. max a (asked_from weights time j q)) 0 (range_with_len 0 n) ≡ early_by weights time j n
+greatest_asked weights time j zero = early_none weights time j
+greatest_asked weights time j (suc n) =
+    ap (fold (λ a q. max a (asked_from weights time j q)) 0) (range_more 0 n) ∙ (fold-append (λ a q. max a (asked_from weights time j q)) 0 (range_with_len 0 n) ((0 + n) ∷ []) ∙
+    (ap₂ (λ a q. max a (asked_from weights time j q)) (greatest_asked weights time j n) (zero-add n) ∙ (sym (early_more weights time j n) ∙ ap (early_by weights time j) (add-one n))))
 
 -- the weights say what the edges say
 module _ (es : List Edge) (n k : ℕ) (w : Weights) (weighed : Weighed es n k w) (few : n ≤ 32) (j : ℕ) (below : j < n) where

@@ -50,11 +50,7 @@ impl Board<'_> {
         ensures value { result ≡ early_on self.now op }
         ensures small { result < 65600 }
     {
-        let mut early = 0;
-        for q in 0..self.task.timings.len() {
-            early = early.max(self.asked_by(q, op));
-        }
-        early
+        (0..self.task.timings.len()).fold(0, |early: usize, q| early.max(self.asked_by(q, op)))
     }
 
     // The time that an operation takes in the window from its early time, or beyond it.
