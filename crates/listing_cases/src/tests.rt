@@ -1,41 +1,35 @@
 use code::form::Code as CodeForm;
-use code::issue::Source;
+use code::issue::{Operation, Source};
 use dependence::loops::Loop;
 use listing::listing::Listing;
 use listing::refusal::Unwritable;
 use listing::slot::Slot;
-use model::{Code, Life, Part, Parts};
+use model::{Code, Life, Operator, Part, Parts};
 use registers::expanded::Expanded;
 use registers::lives::Lives;
 use registers::rotating::Rotating;
 use registers::scheme::Scheme;
 use std::process::Abort;
 use std::test::Fail;
+use timing::Schedule;
 
 // A running sum: three operations, two variables. At interval 2 and times 0, 2 and 3 it has two stages; its greatest distance is 1, so the head is 2.
 const SUM: &[u8] = b"a = load 1 0\ns = add s@1 a\nstore s 1 64\n";
 
 fn read(text: &[u8]) -> Result<Loop, Fail> {
-    match Loop::read(text) {
-        Ok(body) => Ok(body),
-        Err(_) => Err(Fail::new("the text is a loop")),
-    }
+    Loop::read(text).map_err(|_| Fail::new("the text is a loop"))
 }
 
 // The first times; the others do not matter.
-fn times(first: u16, second: u16, third: u16) -> [u16; 32] {
-    let mut all = [0; 32];
-    all[0] = first;
-    all[1] = second;
-    all[2] = third;
-    all
+fn schedule(interval: usize, first: [u16; 3]) -> Schedule {
+    let mut times = [0; 32];
+    times[..3].copy_from_slice(&first);
+    Schedule { interval, times }
 }
 
 // A table of so many equal lives.
 fn lives(rt: &impl Abort, interval: usize, many: usize, end: usize) -> Result<Lives, Fail> {
-    let Some(mut table) = Lives::new(interval) else {
-        return Err(Fail::new("the interval is from 1 to 256"));
-    };
+    let mut table = Lives::new(interval).ok_or_else(|| Fail::new("the interval is from 1 to 256"))?;
     for _ in 0..many {
         assert!(rt; table.push(Life { start: 0, end }));
     }
@@ -58,19 +52,30 @@ fn parts(front: usize, kernel: usize, repeats: usize, rest: usize) -> Parts {
     }
 }
 
-fn refused(answer: Result<(), Unwritable>) -> Option<Unwritable> {
-    match answer {
-        Ok(()) => None,
-        Err(why) => Some(why),
+// The name of a register, or a literal.
+type Named = Result<usize, i32>;
+
+fn named(source: Source) -> Named {
+    match source {
+        Source::Register(name) => Ok(name),
+        Source::Literal(z) => Err(z),
     }
 }
 
-// A name, or a literal.
-fn shown(operand: Option<Source>) -> Option<Result<usize, i32>> {
-    match operand {
-        None => None,
-        Some(Source::Register(name)) => Some(Ok(name)),
-        Some(Source::Literal(z)) => Some(Err(z)),
+// The code of an operation and its operands; the operand of a store and of a move is the left one.
+fn spelled(operation: Operation) -> (Code, Option<Named>, Option<Named>) {
+    match operation {
+        Operation::Load(_) => (Code::Load, None, None),
+        Operation::Store(a, _) => (Code::Store, Some(named(a)), None),
+        Operation::Binary(operator, a, b) => {
+            let code = match operator {
+                Operator::Plus => Code::Add,
+                Operator::Minus => Code::Sub,
+                Operator::Times => Code::Mul,
+            };
+            (code, Some(named(a)), Some(named(b)))
+        }
+        Operation::Move(a) => (Code::Move, Some(named(a)), None),
     }
 }
 
@@ -102,8 +107,8 @@ fn parts_of_the_sum(rt: HostRuntime) -> Result<(), Fail> {
     for (turns, end, trips, expected, slots) in rows {
         let mut scheme = Expanded::new();
         assert_eq!(rt; scheme.fit(&lives(&rt, 2, 2, end)?), Some(turns));
-        let answer = listing.write(&body, &times(0, 2, 3), 2, &scheme, turns, trips);
-        assert_eq!(rt; refused(answer), None);
+        let answer = listing.write(&body, &schedule(2, [0, 2, 3]), &scheme, turns, trips);
+        assert_eq!(rt; answer, Ok(()));
         assert_eq!(rt; listing.parts(), expected);
         assert_eq!(rt; listing.slots().len(), slots);
         assert_eq!(rt; listing.trips(), trips);
@@ -119,31 +124,21 @@ type Line = (
     usize,
     Code,
     Option<usize>,
-    Option<Result<usize, i32>>,
-    Option<Result<usize, i32>>,
+    Option<Named>,
+    Option<Named>,
 );
 
 fn line(slot: &Slot) -> Line {
+    let (code, left, right) = spelled(slot.issue.operation);
     (
         slot.part,
         slot.pass,
         slot.row,
-        slot.code,
-        slot.result,
-        shown(slot.left),
-        shown(slot.right),
+        code,
+        slot.issue.result,
+        left,
+        right,
     )
-}
-
-fn same(rt: &impl Abort, slot: &Slot, expected: Line) {
-    let (part, pass, row, code, result, left, right) = line(slot);
-    assert_eq!(rt; part, expected.0);
-    assert_eq!(rt; pass, expected.1);
-    assert_eq!(rt; row, expected.2);
-    assert_eq!(rt; code, expected.3);
-    assert_eq!(rt; result, expected.4);
-    assert_eq!(rt; left, expected.5);
-    assert_eq!(rt; right, expected.6);
 }
 
 // The name is 2 v + ((copy - back) mod 2).
@@ -153,8 +148,8 @@ fn expanded_sum(rt: HostRuntime) -> Result<(), Fail> {
     assert_eq!(rt; scheme.fit(&sum_lives(&rt)?), Some(2));
     let mut listing = Listing::new(rt.alloc())?;
     assert_eq!(rt;
-        refused(listing.write(&read(SUM)?, &times(0, 2, 3), 2, &scheme, 2, 64)),
-        None
+        listing.write(&read(SUM)?, &schedule(2, [0, 2, 3]), &scheme, 2, 64),
+        Ok(())
     );
     let expected = [
         (Part::Front, 0, 0, Code::Load, Some(0), None, None),
@@ -204,7 +199,7 @@ fn expanded_sum(rt: HostRuntime) -> Result<(), Fail> {
     ];
     assert_eq!(rt; listing.slots().len(), 12);
     for (slot, want) in listing.slots().iter().zip(expected) {
-        same(&rt, slot, want);
+        assert_eq!(rt; line(slot), want);
     }
     Ok(())
 }
@@ -216,8 +211,8 @@ fn rotating_sum(rt: HostRuntime) -> Result<(), Fail> {
     assert_eq!(rt; scheme.fit(&sum_lives(&rt)?), Some(1));
     let mut listing = Listing::new(rt.alloc())?;
     assert_eq!(rt;
-        refused(listing.write(&read(SUM)?, &times(0, 2, 3), 2, &scheme, 1, 64)),
-        None
+        listing.write(&read(SUM)?, &schedule(2, [0, 2, 3]), &scheme, 1, 64),
+        Ok(())
     );
     let expected = [
         (Part::Front, 0, 0, Code::Load, Some(0), None, None),
@@ -256,7 +251,7 @@ fn rotating_sum(rt: HostRuntime) -> Result<(), Fail> {
     ];
     assert_eq!(rt; listing.slots().len(), 9);
     for (slot, want) in listing.slots().iter().zip(expected) {
-        same(&rt, slot, want);
+        assert_eq!(rt; line(slot), want);
     }
     Ok(())
 }
@@ -278,13 +273,14 @@ fn literals_by_distance(rt: HostRuntime) -> Result<(), Fail> {
         let mut scheme = Rotating::new();
         assert_eq!(rt; scheme.fit(&lives(&rt, 1, 1, distance)?), Some(1));
         assert_eq!(rt;
-            refused(listing.write(&read(text)?, &times(0, 0, 0), 1, &scheme, 1, 10)),
-            None
+            listing.write(&read(text)?, &schedule(1, [0, 0, 0]), &scheme, 1, 10),
+            Ok(())
         );
         assert_eq!(rt; listing.slots().len(), distance + 1);
         for (i, slot) in listing.slots().iter().enumerate() {
-            assert_eq!(rt; shown(slot.left) == Some(Err(0)), i < distance);
-            assert_eq!(rt; shown(slot.right), Some(Err(1)));
+            let (_, left, right) = spelled(slot.issue.operation);
+            assert_eq!(rt; left == Some(Err(0)), i < distance);
+            assert_eq!(rt; right, Some(Err(1)));
         }
     }
     Ok(())
@@ -308,15 +304,15 @@ fn stages(rt: HostRuntime) -> Result<(), Fail> {
     let scheme = Rotating::new();
     for (second, expected, slots) in rows {
         assert_eq!(rt;
-            refused(listing.write(&body, &times(0, second, 0), 3, &scheme, 1, 20)),
-            None
+            listing.write(&body, &schedule(3, [0, second, 0]), &scheme, 1, 20),
+            Ok(())
         );
         assert_eq!(rt; listing.parts(), expected);
         assert_eq!(rt; listing.slots().len(), slots);
     }
     assert_eq!(rt;
-        refused(listing.write(&body, &times(0, 24, 0), 3, &scheme, 1, 20)),
-        Some(Unwritable::Stages)
+        listing.write(&body, &schedule(3, [0, 24, 0]), &scheme, 1, 20),
+        Err(Unwritable::Stages)
     );
     assert_eq!(rt; listing.slots().len(), 16);
     Ok(())
@@ -328,8 +324,8 @@ fn refusals_change_nothing(rt: HostRuntime) -> Result<(), Fail> {
     let scheme = Rotating::new();
     let mut listing = Listing::new(rt.alloc())?;
     assert_eq!(rt;
-        refused(listing.write(&body, &times(0, 2, 3), 2, &scheme, 1, 64)),
-        None
+        listing.write(&body, &schedule(2, [0, 2, 3]), &scheme, 1, 64),
+        Ok(())
     );
     let rows = [
         (0, 1, 64, Unwritable::Interval),
@@ -339,8 +335,14 @@ fn refusals_change_nothing(rt: HostRuntime) -> Result<(), Fail> {
         (1, 1, 4097, Unwritable::Trips),
     ];
     for (interval, turns, trips, why) in rows {
-        let answer = listing.write(&body, &times(0, 2, 30), interval, &scheme, turns, trips);
-        assert_eq!(rt; refused(answer), Some(why));
+        let answer = listing.write(
+            &body,
+            &schedule(interval, [0, 2, 30]),
+            &scheme,
+            turns,
+            trips,
+        );
+        assert_eq!(rt; answer, Err(why));
         assert_eq!(rt; listing.parts(), parts(2, 1, 62, 1));
         assert_eq!(rt; listing.slots().len(), 9);
         assert_eq!(rt; listing.trips(), 64);
@@ -351,13 +353,10 @@ fn refusals_change_nothing(rt: HostRuntime) -> Result<(), Fail> {
 
 // How many operations of the sum issue in a row of a pass: stages 0, 1 and 1, rows 0, 0 and 1.
 fn issuing(pass: usize, row: usize, trips: usize) -> usize {
-    let mut count = 0usize;
-    for (stage, at) in [(0usize, 0usize), (1, 0), (1, 1)] {
-        if at == row && stage <= pass && pass - stage < trips && count < 3 {
-            count += 1;
-        }
-    }
-    count
+    [(0, 0), (1, 0), (1, 1)]
+        .iter()
+        .filter(|(stage, at)| *at == row && *stage <= pass && pass - *stage < trips)
+        .count()
 }
 
 // Through front, kernel and rest, each row of each pass has the operations that issue in it; behind the last pass and row there is nothing.
@@ -370,8 +369,8 @@ fn every_row(rt: HostRuntime) -> Result<(), Fail> {
         assert_eq!(rt; scheme.fit(&lives(&rt, 2, 2, end)?), Some(turns));
         for trips in 0usize..25 {
             assert_eq!(rt;
-                refused(listing.write(&body, &times(0, 2, 3), 2, &scheme, turns, trips)),
-                None
+                listing.write(&body, &schedule(2, [0, 2, 3]), &scheme, turns, trips),
+                Ok(())
             );
             for pass in 0usize..27 {
                 for row in 0usize..3 {
