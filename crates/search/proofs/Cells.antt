@@ -1,5 +1,5 @@
 -- The search's arrays.
-use Rattle.std.proofs.Common.{◌≡◌, ℕ, zero, suc, ◌+◌, ◌-◌, ◌<◌, ◌≤◌, max, Bool, true, false, cond, not, ◌&&◌, List, [], ◌∷◌, get_or, Some, None, Option, option_map, MatchOption, sym, refl, ap, ap₂, ◌∙◌, subst, inl, inr, add-zero, zero-add, add-one, arith}
+use Rattle.std.proofs.Common.{◌≡◌, ℕ, zero, suc, ◌+◌, ◌-◌, ◌<◌, ◌≤◌, max, Bool, true, false, cond, not, ◌&&◌, List, [], ◌∷◌, length, get_or, Some, None, Option, option_map, MatchOption, sym, refl, ap, ap₂, ◌∙◌, subst, inl, inr, add-zero, zero-add, add-one, arith}
 use denote.Param.Members.{Mut, Called}
 use Rattle.std.specs.Array.{IsFromFnResult, IsFromFnResultFrom}
 use Rattle.std.specs.Ordering.{ord_max, nat_cmp}
@@ -7,7 +7,7 @@ use Rattle.std.proofs.lemmas.Bool.Decides.{nat_tests}
 use Rattle.std.specs.List.{range_with_len, find, list_all}
 use Rattle.std.proofs.lemmas.List.{get_or-set_same, get_or-set_other}
 use Rattle.std.proofs.lemmas.List.Folds.{list_all-append}
-use Rattle.std.proofs.lemmas.Bool.{cases_eq, cases_lt, eq-eqb, ne_eqb, and_from, lt-ltb, le-leb, both_ways}
+use Rattle.std.proofs.lemmas.Bool.{cases_eq, cases_lt, eq-eqb, ne_eqb, and_from, and_parts, lt-ltb, le-leb, both_ways}
 use Rattle.model.specs.declared.Timing.{Timing}
 use Rattle.model.specs.Search.{first, all_below}
 use Rattle.search_laws.specs.Counts.{Added, Has, Room, Less, Put, Unmarked}
@@ -105,3 +105,13 @@ by_option (Some x) N G P h none some = some x refl h
 pub same_mapped : (o : Option ℕ) → option_map (λ x. x) o ≡ o
 same_mapped None = refl
 same_mapped (Some x) = refl
+
+-- a test that each item passes
+pub each_passes : {A : Type 0} (p : A → Bool) (xs : List A) (d : A) → list_all p xs ≡ true → (j : ℕ) → j < length xs → p (get_or xs j d) ≡ true
+each_passes p [] d h j l = absurd (omega arith)
+each_passes p (x ∷ xs) d h zero l = (and_parts _ _ h).0
+each_passes p (x ∷ xs) d h (suc j) l = each_passes p xs d (and_parts _ _ h).1 j (omega arith)
+
+pub all_pass : {A : Type 0} (p : A → Bool) (xs : List A) (d : A) → ((j : ℕ) → j < length xs → p (get_or xs j d) ≡ true) → list_all p xs ≡ true
+all_pass p [] d h = refl
+all_pass p (x ∷ xs) d h = and_from _ _ (h 0 (omega arith)) (all_pass p xs d (λ j l. h (suc j) (omega arith)))

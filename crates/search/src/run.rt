@@ -56,12 +56,9 @@ fn alone_fit(timings: &[Timing], units: &[usize], interval: usize) -> bool
     requires interval { interval ≤ 256 }
     ensures { Decides result (Roomy (hardware timings.now units.now) (length timings.now) interval) }
 {
-    for timing in timings {
-        if timing.busy > interval * units[timing.class] {
-            return false;
-        }
-    }
-    true
+    timings
+        .iter()
+        .all(|timing| timing.busy <= interval * units[timing.class])
 }
 
 // The search at an interval, of operations with these timings and edges, on classes with so many units.
