@@ -1,2 +1,3 @@
 mod Loops
+mod Folded
 mod Steps

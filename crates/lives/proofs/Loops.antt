@@ -22,12 +22,13 @@ module _ (s : OwnLoop) (xs : List OwnOperation) (seen : operations_seen xs ≡ l
   pub count_is : length xs ≡ length (loop_seen s)
   count_is = sym (length-map xs operation_seen) ∙ ap length seen
 
-  pub seen_at : (j : ℕ) (d : OwnOperation) → j < length xs → operation_seen (get_or xs j d) ≡ op (loop_seen s) j
-  unfolding op
-  seen_at j d h = sym (get_or-map operation_seen xs j d _ h) ∙ ap (λ l. op l j) seen
+  module _ (j : ℕ) (o d : OwnOperation) (below : j < length xs) (is : o ≡ get_or xs j d) where
+    pub seen_at : operation_seen o ≡ op (loop_seen s) j
+    unfolding op
+    seen_at = ap operation_seen is ∙ (sym (get_or-map operation_seen xs j d _ below) ∙ ap (λ l. op l j) seen)
 
-  -- the operands of a loop's operations are near
-  pub near_at : (q : ℕ) (d : OwnOperation) → q < length xs → EachOperand Near (operation_seen (get_or xs q d))
-  near_at q d h =
-      let named = sound_named (loop_seen s) s.sound in
-      subst (EachOperand Near) (sym (seen_at q d h)) (near_each (loop_seen s) q named.1 (op (loop_seen s) q) (named.2 q (omega (arith, count_is))))
+    -- the operands of a loop's operations are near
+    pub near_at : EachOperand Near (operation_seen o)
+    near_at =
+        let named = sound_named (loop_seen s) s.sound in
+        subst (EachOperand Near) (sym seen_at) (near_each (loop_seen s) j named.1 (op (loop_seen s) j) (named.2 j (omega (arith, count_is))))

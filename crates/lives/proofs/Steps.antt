@@ -18,11 +18,12 @@ reads_same : (w : Schedule) (v q : ℕ) (a : Operand) → read_by (w.time q) w.i
 reads_same w v q (literal z) = refl
 reads_same w v q (variable p d) = refl
 
-pub reads_then : (ops : Loop) (w : Schedule) (v q before after : ℕ) (o : Operation Operand) → before ≡ last_read ops w v q → o ≡ op ops q →
-    after ≡ max before (greatest (read_by (w.time q) w.interval v) o) → after ≡ last_read ops w v (q + 1)
-reads_then ops w v q before after o b e a =
-    a ∙ (ap₂ (λ x y. max x (greatest (read_by (w.time q) w.interval v) y)) b e ∙
-    (ap (λ f. max (last_read ops w v q) (greatest f (op ops q))) (fun_ext (reads_same w v q)) ∙ sym (read_more ops w v q)))
+pub reads_then : (ops : Loop) (w : Schedule) (v q before after time : ℕ) (o : Operation Operand) → before ≡ last_read ops w v q → o ≡ op ops q → time ≡ w.time q →
+    after ≡ max before (greatest (read_by time w.interval v) o) → after ≡ last_read ops w v (q + 1)
+reads_then ops w v q before after time o b e t a =
+    a ∙ (ap (λ x. max before (greatest (read_by x w.interval v) o)) t ∙
+    (ap₂ (λ x y. max x (greatest (read_by (w.time q) w.interval v) y)) b e ∙
+    (ap (λ f. max (last_read ops w v q) (greatest f (op ops q))) (fun_ext (reads_same w v q)) ∙ sym (read_more ops w v q))))
 
 -- THE TABLE OF LIVES
 abbrev pub pushed : Table → Life → Table

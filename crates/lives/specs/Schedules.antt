@@ -1,4 +1,4 @@
--- Times at an interval as a schedule, and what there is to a schedule.
+-- What there is to a schedule, and the sequential one.
 use Rattle.std.specs.Prelude.{◌≡◌, ℕ, ◌≤◌, cond, List, length, Some, None, Option, nat_lt, slice_index}
 use Rattle.model.specs.Loop.{Loop, total}
 use Rattle.model.specs.Limits.{timing, hardware}
@@ -8,11 +8,7 @@ use Rattle.model.specs.Lives.{Limits}
 use Rattle.model.specs.ScheduleLives.{lives_table}
 use Rattle.registers.specs.Views.{table}
 use Rattle.registers.specs.declared.lives.Lives.{Lives}
-use Rattle.lives.specs.declared.sequence.Sequence.{Sequence}
-
--- The time of each operation stands in its place, 0 behind the last place.
-abbrev pub scheduled : ℕ → List ℕ → Schedule
-scheduled k times = record { interval = k; time = λ j. slice_index times j }
+use Rattle.timing.specs.declared.Schedule.{Schedule as OwnSchedule}
 
 -- The table of lives, on whatever units; there is none where it would be beyond the limits of a table.
 abbrev pub LivesOf : Loop → List Timing → Schedule → Option Lives → Type 0
@@ -28,7 +24,7 @@ abbrev pub Short : List Timing → Type 0
 Short us = (length us ≤ 32) × (latencies us (length us) ≤ 256)
 
 -- Each operation starts at the sum of the latencies before it, at the sum of all.
-abbrev pub SequenceOf : List Timing → Option Sequence → Type 0
+abbrev pub SequenceOf : List Timing → Option OwnSchedule → Type 0
 SequenceOf us None = Short us → ⊥
 SequenceOf us (Some s) =
     Short us × (s.interval ≡ latencies us (length us)) × ((j : ℕ) → slice_index s.times j ≡ cond (nat_lt j (length us)) (latencies us j) 0)

@@ -3,11 +3,9 @@
 
 mod ends;
 mod fill;
-mod sequence;
 mod stages;
 mod start;
 
 pub use fill::lives_of;
-pub use sequence::Sequence;
 pub use stages::stages_of;
 pub use start::in_sequence;

@@ -2,15 +2,15 @@
 ghost use Rattle.std.specs.Prelude.{◌≡◌, ◌≤◌};
 ghost use Rattle.lives.specs.Schedules.{SequenceOf};
 
-use crate::sequence::Sequence;
 use model::Timing;
+use timing::Schedule;
 
 const OPERATIONS: usize = 32;
 
 const LONGEST: usize = 256;
 
 // The sequential schedule of operations with these timings; none for more than 32, or where the sum of the latencies is above 256.
-pub fn in_sequence(timings: &[Timing]) -> Option<Sequence>
+pub fn in_sequence(timings: &[Timing]) -> Option<Schedule>
     ensures { SequenceOf timings.now result }
 {
     if timings.len() > OPERATIONS {
@@ -18,13 +18,12 @@ pub fn in_sequence(timings: &[Timing]) -> Option<Sequence>
     }
     let mut times = [0; 32];
     let mut interval = 0;
-    for j in 0..timings.len() {
+    for (j, timing) in timings.iter().enumerate() {
         times[j] = interval as u16;
-        let latency = timings[j].latency;
-        if latency > LONGEST - interval {
+        if timing.latency > LONGEST - interval {
             return None;
         }
-        interval += latency;
+        interval += timing.latency;
     }
-    Some(Sequence { interval, times })
+    Some(Schedule { interval, times })
 }

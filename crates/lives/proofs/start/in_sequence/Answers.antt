@@ -11,8 +11,8 @@ use Rattle.lives.proofs.start.in_sequence.Goals as goal
 pub loop-j-init : goal.loop-j-init
 loop-j-init c = (refl, omega arith, refl, λ q. rw (le-ltb q 0 (omega arith)) (zeros 32 q))
 
-pub returns-then-latency-interval : goal.returns-then-latency-interval
-returns-then-latency-interval c = λ short.
+pub returns-then-timing-interval : goal.returns-then-timing-interval
+returns-then-timing-interval c = λ short.
     let us = c.args.timings.now in
     omega (
       arith,
