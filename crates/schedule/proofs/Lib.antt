@@ -1,3 +1,4 @@
+mod Arrays
 mod Attempts
 mod Plans
 mod Planned

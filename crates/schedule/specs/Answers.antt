@@ -13,21 +13,21 @@ use Rattle.model.specs.Plan.{refused, IsPlan}
 use Rattle.schedule_laws.specs.Alike.{IsPlanned}
 use Rattle.bounds.specs.Answers.{evidence as evidence_of}
 use Rattle.registers.specs.Fits.{Fitted}
-use Rattle.lives.specs.Schedules.{scheduled}
+use Rattle.timing.specs.Seen.{schedule_seen}
 use Rattle.schedule.specs.declared.answer.Scheduled.{Scheduled}
 use Rattle.schedule.specs.declared.answer.NoSchedule.{NoSchedule}
 use Rattle.schedule.specs.declared.answer.NoSchedule.TheVariants.{NotTaken, Outside, Standing}
 
 abbrev pub schedule_of : Scheduled → Schedule
-schedule_of p = scheduled p.interval p.times
+schedule_of p = schedule_seen p.choice.schedule
 
 -- The plan, the evidence for the minimum, and the scheme, which took the lives of the schedule.
 pub record Success {S : Type 0} (meaning : S → Meaning) (place : S → ℕ → ℕ → ℕ) (m : Machine) (ops : Loop) (es : List Edge) (before after : S) (p : Scheduled) : Type 0 where
   pub fits : GraphFits (length ops) es
   pub plan : IsPlanned ops es (hardware m ops) (length m.classes) (meaning before).need (meaning before).file p.minimum.value (schedule_of p) p.steps
   pub evidence : IsEvidence es (hardware m ops) (length ops) (length m.classes) p.minimum.value (evidence_of p.minimum.witness)
-  pub fitted : Fitted meaning place before after (lives_table ops (hardware m ops) (schedule_of p)) (Some p.turns)
-  pub stages : p.stages ≡ stages_in (schedule_of p) (length ops)
+  pub fitted : Fitted meaning place before after (lives_table ops (hardware m ops) (schedule_of p)) (Some p.choice.turns)
+  pub stages : p.choice.stages ≡ stages_in (schedule_of p) (length ops)
 
 -- The plan is a refusal, and the scheme is as it was.
 pub record NoneTaken {S : Type 0} (meaning : S → Meaning) (m : Machine) (ops : Loop) (es : List Edge) (before after : S) : Type 0 where

@@ -1,2 +1,4 @@
 pub mod Answers
 pub mod Choices
+pub mod Problems
+pub mod Refusals

@@ -1,19 +1,17 @@
 // What is planned for a loop.
-use bounds::Minimum;
+ghost use Rattle.std.specs.Prelude.{◌≡◌};
+ghost use Rattle.schedule.specs.Refusals.{refused_as};
+
+use crate::choice::Choice;
+use bounds::{Minimum, NoMinimum};
 
 // A schedule, with the minimum and its witness.
 #[derive(Clone, Copy)]
 pub struct Scheduled {
     pub minimum: Minimum,
-    pub interval: usize,
-    // of each operation in iteration 0, and 0 behind the last
-    pub times: [u16; 32],
+    pub choice: Choice,
     // of all intervals tried
     pub steps: usize,
-    // the greatest stage + 1
-    pub stages: usize,
-    // the answer of the register scheme, which took the lives
-    pub turns: usize,
 }
 
 // Why there is no schedule.
@@ -25,4 +23,15 @@ pub enum NoSchedule {
     Outside,
     // a circuit has delays and no distance
     Standing,
+}
+
+impl From<NoMinimum> for NoSchedule {
+    ghost from_gives = { λ e r. r ≡ refused_as e };
+
+    fn from(refusal: NoMinimum) -> NoSchedule {
+        match refusal {
+            NoMinimum::Outside => NoSchedule::Outside,
+            NoMinimum::Standing => NoSchedule::Standing,
+        }
+    }
 }

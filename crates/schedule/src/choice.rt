@@ -1,18 +1,19 @@
 // What is tried at an interval, and what is chosen.
+use timing::Schedule;
 
-// A schedule that the register scheme took, after so many steps.
+// A schedule that the register scheme took.
 #[derive(Clone, Copy)]
 pub struct Choice {
-    pub interval: usize,
-    pub times: [u16; 32],
-    pub steps: usize,
+    pub schedule: Schedule,
+    // the greatest stage + 1
     pub stages: usize,
+    // the answer of the register scheme, which took the lives
     pub turns: usize,
 }
 
-// The search at an interval succeeded; or it did not, after so many steps.
+// What comes of an interval, after so many steps.
 #[derive(Clone, Copy)]
-pub enum Attempt {
-    Taken(Choice),
-    Failed(usize),
+pub struct Attempt {
+    pub choice: Option<Choice>,
+    pub steps: usize,
 }

@@ -1,53 +1,37 @@
 // The choice of an interval.
-ghost use Rattle.dependence.specs.Loops.{loop_seen};
-ghost use Rattle.schedule_laws.specs.Ready.{Ready};
+ghost use Rattle.schedule.specs.Problems.{ReadyAt};
 ghost use Rattle.schedule.specs.Choices.{ChoiceOf};
 
-use crate::attempt::{attempt, offer};
-use crate::choice::{Attempt, Choice};
-use dependence::loops::Loop;
-use lives::{in_sequence, stages_of};
-use model::{Edge, Timing};
+use crate::answer::Scheduled;
+use crate::problem::Problem;
+use bounds::Minimum;
+use lives::in_sequence;
 use registers::scheme::Scheme;
 
-// The first interval from the lowest on at which an attempt succeeds; at the sum of the latencies the sequential schedule, if the scheme takes it.
-pub(crate) fn choose<S: Scheme>(
-    scheme: &mut S,
-    l: &Loop,
-    edges: &[Edge],
-    timings: &[Timing],
-    units: &[usize],
-    lowest: usize,
-) -> Option<Choice>
-    requires { Ready (loop_seen l.now) edges.now timings.now units.now lowest }
-    ensures { ChoiceOf S.meaning S.place (loop_seen l.now) edges.now timings.now units.now lowest scheme.old scheme.new result }
-{
-    let sequence = in_sequence(timings)?;
-    let mut steps = 0;
-    for interval in lowest..sequence.interval {
-        match attempt(scheme, l, edges, timings, units, interval) {
-            Attempt::Failed(taken) => steps += taken,
-            Attempt::Taken(choice) => {
-                let times = choice.times;
-                return Some(Choice {
-                    interval: choice.interval,
-                    times,
-                    steps: steps + choice.steps,
-                    stages: choice.stages,
-                    turns: choice.turns,
+impl Problem<'_> {
+    // The first interval from the minimum on at which an attempt succeeds; at the sum of the latencies the sequential schedule, if the scheme takes it.
+    pub(crate) fn choose<S: Scheme>(&self, scheme: &mut S, minimum: Minimum) -> Option<Scheduled>
+        requires { ReadyAt self.now minimum.value }
+        ensures { ChoiceOf S.meaning S.place self.now minimum scheme.old scheme.new result }
+    {
+        let sequence = in_sequence(self.timings)?;
+        let mut steps = 0;
+        for interval in minimum.value..sequence.interval {
+            let attempt = self.attempt(scheme, interval);
+            steps += attempt.steps;
+            if let Some(choice) = attempt.choice {
+                return Some(Scheduled {
+                    minimum,
+                    choice,
+                    steps,
                 });
             }
         }
+        let choice = self.offer(scheme, sequence)?;
+        Some(Scheduled {
+            minimum,
+            choice,
+            steps,
+        })
     }
-    let interval = sequence.interval;
-    let times = sequence.times;
-    let turns = offer(scheme, l, timings, &times, interval)?;
-    let stages = stages_of(l, &times, interval);
-    Some(Choice {
-        interval,
-        times,
-        steps,
-        stages,
-        turns,
-    })
 }

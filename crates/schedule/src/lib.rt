@@ -6,6 +6,8 @@ mod attempt;
 mod choice;
 mod choose;
 mod plan;
+mod problem;
 
 pub use answer::{NoSchedule, Scheduled};
+pub use choice::Choice;
 pub use plan::schedule_loop;

@@ -4,8 +4,8 @@ ghost use Rattle.dependence.specs.Loops.{loop_seen};
 ghost use Rattle.schedule.specs.Answers.{ScheduleOf};
 
 use crate::answer::{NoSchedule, Scheduled};
-use crate::choose::choose;
-use bounds::{NoMinimum, minimum};
+use crate::problem::Problem;
+use bounds::minimum;
 use dependence::hardware::{timings_of, units_of};
 use dependence::loops::Loop;
 use model::Edge;
@@ -22,27 +22,13 @@ pub fn schedule_loop<S: Scheme>(
     ensures { ScheduleOf S.meaning S.place (machine_seen machine.now) (loop_seen l.now) edges.now scheme.old scheme.new result }
 {
     let timings = timings_of(machine, l);
-    let timings = timings.as_slice();
     let units = units_of(machine);
-    let units = &units[0..machine.entries.count];
-    match minimum(edges, timings, units) {
-        Err(why) => match why {
-            NoMinimum::Outside => Err(NoSchedule::Outside),
-            NoMinimum::Standing => Err(NoSchedule::Standing),
-        },
-        Ok(minimum) => match choose(scheme, l, edges, timings, units, minimum.value) {
-            None => Err(NoSchedule::NotTaken),
-            Some(choice) => {
-                let times = choice.times;
-                Ok(Scheduled {
-                    minimum,
-                    interval: choice.interval,
-                    times,
-                    steps: choice.steps,
-                    stages: choice.stages,
-                    turns: choice.turns,
-                })
-            }
-        },
-    }
+    let problem = Problem {
+        source: l,
+        edges,
+        timings: timings.as_slice(),
+        units: &units[..machine.entries.count],
+    };
+    let minimum = minimum(edges, problem.timings, problem.units)?;
+    problem.choose(scheme, minimum).ok_or(NoSchedule::NotTaken)
 }
