@@ -1,11 +1,12 @@
 // The tokens of a line, one after another.
 ghost use Rattle.std.specs.Prelude.{◌≡◌, ℕ, ◌+◌, ◌^◌, ◌<◌, ◌≤◌, true, [], length, drop, None};
 ghost use Rattle.std.specs.List.{prefix_len};
+ghost use Rattle.std.specs.Iterator.{YieldsFirstBy, item_count};
 ghost use Rattle.model.specs.Lines.{space, solid, lexeme, tokens};
-ghost use Rattle.reader.specs.Seen.{seen, left, taken};
+ghost use Rattle.reader.specs.Seen.{seen, left};
 
 use crate::shapes::{is_earlier, is_name, is_negative, is_number};
-use crate::token::{Part, Token};
+use crate::token::{Earlier, Negative, Number, Operand, Part, Token, Word};
 
 // A part as a token, by its shape.
 fn token_of<'a>(text: &'a [u8], line: usize, at: usize) -> Token<'a>
@@ -18,11 +19,13 @@ fn token_of<'a>(text: &'a [u8], line: usize, at: usize) -> Token<'a>
         column: at + 1,
     };
     if is_name(text) {
-        Token::Word(part)
+        Token::Operand(Operand::Word(Word { part }))
     } else if is_number(text) {
-        Token::Number(part)
-    } else if is_earlier(text) || is_negative(text) {
-        Token::Operand(part)
+        Token::Operand(Operand::Number(Number { part }))
+    } else if is_earlier(text) {
+        Token::Operand(Operand::Earlier(Earlier { part }))
+    } else if is_negative(text) {
+        Token::Operand(Operand::Negative(Negative { part }))
     } else {
         Token::Other(part)
     }
@@ -59,14 +62,16 @@ impl<'a> Reader<'a> {
     {
         Reader { text, line, at: 0 }
     }
+}
 
-    // The next token; none at the end of the line.
-    pub fn next_token(&mut self) -> Option<Token<'a>>
-        ensures token { left self.old.line self.old.text.now self.old.at ≡ taken result (left self.old.line self.old.text.now self.new.at) }
-        ensures finished { result ≡ None → left self.old.line self.old.text.now self.new.at ≡ [] }
-        ensures text { self.new.text.now ≡ self.old.text.now }
-        ensures line { self.new.line ≡ self.old.line }
-    {
+impl<'a> Iterator for Reader<'a> {
+    type Item = Token<'a>;
+
+    ghost next_gives = { YieldsFirstBy seen (λ s. left s.line s.text.now s.at) };
+
+    ghost remaining = { item_count (λ s. left s.line s.text.now s.at) };
+
+    fn next(&mut self) -> Option<Token<'a>> {
         let text = self.text;
         let start = self.at + space_len(&text[self.at..]);
         let end = start + solid_len(&text[start..]);

@@ -1,15 +1,7 @@
 // The shapes of a token.
-ghost use Rattle.std.specs.Prelude.{◌≡◌, ℕ, ◌+◌, ◌<◌, ◌≤◌, Bool, true, false, ◌&&◌, length, drop, slice_index};
+ghost use Rattle.std.specs.Prelude.{◌≡◌, ℕ, ◌+◌, ◌<◌, ◌≤◌, Bool, true, false, ◌&&◌, length, drop};
 ghost use Rattle.std.specs.List.{prefix_len};
-ghost use Rattle.std.specs.Str.{bytes_eq};
 ghost use Rattle.model.specs.Shapes.{every, between, digit, letter, is_name, is_number, is_negative, is_earlier, name_of, after_at};
-
-// Whether two byte strings are the same.
-pub fn same(word: &[u8], text: &[u8]) -> bool
-    ensures { result ≡ bytes_eq word.now text.now }
-{
-    word == text
-}
 
 // Whether each byte lies between two bounds.
 pub fn all_between(s: &[u8], lo: u8, hi: u8) -> bool
@@ -50,13 +42,6 @@ pub fn tail(s: &[u8], n: usize) -> &[u8]
     ensures { result.now ≡ drop n s.now }
 {
     s.get(n..).unwrap_or(b"")
-}
-
-// The byte at a place; 0 past the end.
-pub fn byte_at(s: &[u8], n: usize) -> u8
-    ensures { result ≡ slice_index s.now n }
-{
-    s.get(n).copied().unwrap_or(0)
 }
 
 // The name before the @ of an operand.

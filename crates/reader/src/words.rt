@@ -1,6 +1,6 @@
 // The reserved words and the values of numbers.
 ghost use Rattle.std.specs.Prelude.{◌≡◌, ℕ, ◌+◌, ◌^◌, ◌<◌, ◌≤◌, Bool, true, false, length};
-ghost use Rattle.model.specs.Shapes.{every, digit, is_number, value as amount_of, code_of, is_reserved, between};
+ghost use Rattle.model.specs.Shapes.{every, digit, is_number, value as amount_of, code_of, is_reserved};
 
 use model::Code;
 
@@ -45,10 +45,4 @@ pub fn value_of(s: &[u8]) -> usize
     ensures small { result < 100000 }
 {
     digits_value(s)
-}
-
-pub fn within(n: usize, lo: usize, hi: usize) -> bool
-    ensures { result ≡ between lo hi n }
-{
-    (lo..=hi).contains(&n)
 }
