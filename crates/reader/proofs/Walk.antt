@@ -1,5 +1,5 @@
 -- The first tokens of a line say whether it has a form, and what stands in it.
-use Rattle.std.proofs.Common.{◌≡◌, ℕ, zero, suc, ◌<◌, ◌≤◌, true, ◌&&◌, leb, List, [], ◌∷◌, length, take, refl, ap, arith}
+use Rattle.std.proofs.Common.{◌≡◌, ℕ, zero, suc, ◌<◌, ◌≤◌, Bool, true, false, ◌&&◌, leb, List, [], ◌∷◌, length, get_or, take, refl, ap, arith}
 use Rattle.std.proofs.lemmas.Bool.{and_parts, leb-true}
 use Rattle.model.specs.Shapes.{between, is_name}
 use Rattle.model.specs.Lines.{Lexeme, Want, fits, fits_all, tok}
@@ -19,3 +19,29 @@ tok_take (t ∷ ts) (suc n) (suc i) h = tok_take ts n i (omega arith)
 
 pub name_short : (w : List ℕ) → is_name w ≡ true → length w ≤ 8
 name_short w e = let x = and_parts (between 1 8 (length w)) _ e in let y = and_parts (leb 1 (length w)) (leb (length w) 8) x.0 in leb-true (length w) 8 y.1
+
+-- a form has as many tokens as it wants
+pub fits_len : (ws : List Want) (ts : List Lexeme) → (length ts ≡ length ws → ⊥) → fits_all ws ts ≡ false
+fits_len [] [] h = absurd (h refl)
+fits_len [] (t ∷ ts) h = refl
+fits_len (w ∷ ws) [] h = refl
+fits_len (w ∷ ws) (t ∷ ts) h = off (fits w t) (fits_all ws ts) (fits_len ws ts (λ e. h (omega (arith, e))))
+  where
+    off : (a b : Bool) → b ≡ false → (a && b) ≡ false
+    off true b e = e
+    off false b e = refl
+
+-- a list by its items
+pub by_four : {X : Type 0} (xs : List X) (a b c d : X) → a ≡ get_or xs 0 a → b ≡ get_or xs 1 b → c ≡ get_or xs 2 c → d ≡ get_or xs 3 d
+    → length xs ≡ 4 → xs ≡ a ∷ b ∷ c ∷ d ∷ []
+by_four (t ∷ u ∷ v ∷ w ∷ []) a b c d ea eb ec ed h = cc
+by_four [] a b c d ea eb ec ed h = absurd (omega arith)
+by_four (t ∷ []) a b c d ea eb ec ed h = absurd (omega arith)
+by_four (t ∷ u ∷ []) a b c d ea eb ec ed h = absurd (omega arith)
+by_four (t ∷ u ∷ v ∷ []) a b c d ea eb ec ed h = absurd (omega arith)
+by_four (t ∷ u ∷ v ∷ w ∷ x ∷ xs) a b c d ea eb ec ed h = absurd (omega arith)
+
+pub by_five : {X : Type 0} (xs : List X) (a b c d e : X) → a ≡ get_or xs 0 a → b ≡ get_or xs 1 b → c ≡ get_or xs 2 c → d ≡ get_or xs 3 d → e ≡ get_or xs 4 e
+    → length xs ≡ 5 → xs ≡ a ∷ b ∷ c ∷ d ∷ e ∷ []
+by_five [] a b c d e ea eb ec ed ee h = absurd (omega arith)
+by_five (s ∷ xs) a b c d e ea eb ec ed ee h = let r = by_four xs b c d e eb ec ed ee (omega arith) in cc

@@ -76,3 +76,9 @@ inside b = not (b == 10)
 -- a line with its number
 abbrev pub line_seen : ℕ × Bor (List ℕ) → Line
 line_seen l = record { number = l.0; bytes = l.1.now }
+
+abbrev pub word_seen : OwnWord → Lexeme
+word_seen w = lexeme_of word w.part
+
+abbrev pub number_seen : OwnNumber → Lexeme
+number_seen n = lexeme_of number n.part

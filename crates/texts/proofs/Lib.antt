@@ -1,4 +1,2 @@
-pub mod Names
-pub mod Steps
 pub mod LineSteps
-pub mod Cuts
+pub mod Places

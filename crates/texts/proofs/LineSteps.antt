@@ -1,59 +1,43 @@
--- What one line does, by its form. Assumes nothing.
-use Rattle.std.proofs.Common.{◌≡◌, ℕ, Bool, true, false, cond, List, [], ◌∷◌, ◌++◌, is_some as given, Some, None, Ok, Err, Option, Result, sym, refl, ap, ◌∙◌, ⊎_elim, arith}
+-- What one line does, by its form.
+use Rattle.std.proofs.Common.{◌≡◌, ℕ, ◌≤◌, Bool, true, false, List, [], ◌∷◌, ◌++◌, length, take, Some, None, Ok, Err, Option, Result, sym, refl, ap, ◌∙◌, arith}
 use Rattle.std.proofs.lemmas.List.{append-nil}
-use Rattle.std.proofs.lemmas.Bool.{and_parts, cases_Bool}
-use Rattle.reader.specs.declared.token.Token.{Token}
-use Rattle.reader.specs.Seen.{shown}
 use Rattle.model.specs.declared.MachineForm.{MachineForm}
 use Rattle.model.specs.declared.MachineForm.TheVariants.{Unit as UnitForm, Op}
-use Rattle.model.specs.Lines.{Line, Lexeme, tokens, tok}
-use Rattle.model.specs.Shapes.{every, between, has_some, code_of}
+use Rattle.model.specs.Lines.{Line, Lexeme, tokens, tok, fits_all}
+use Rattle.model.specs.Shapes.{every, between, has_some}
 use Rattle.model.specs.Questions.{Answer, good, Refusal, no_or, unless, formed_by}
-use Rattle.model.specs.MachineText.{Class, Machine, form_of, formed, ranged_by, named_by, roomy_by, class_by, timings_by, machine_rules}
-use Rattle.reader.specs.Rows.{nth_of}
-use Rattle.texts.specs.Seen.{text, wordy, digits, unit_in, op_in, row_form, unit_step, op_step, line_step}
+use Rattle.model.specs.MachineText.{Class, Machine, wants, form_of, formed, ranged_by, named_by, roomy_by, class_by, timings_by, machine_rules}
+use Rattle.reader.specs.Seen.{seen, word_seen, number_seen}
+use Rattle.reader.proofs.Walk.{fits_take, tok_take}
+use Rattle.texts.specs.declared.forms.UnitLine.{UnitLine}
+use Rattle.texts.specs.declared.forms.OpLine.{OpLine}
+use Rattle.texts.specs.Forms.{UnitFormed, OpFormed}
+use Rattle.texts.specs.Seen.{unit_step, op_step, line_step}
 
-pub form_in : (ts : List Lexeme) → row_form (nth_of ts 0) (nth_of ts 1) (nth_of ts 2) (nth_of ts 3) (nth_of ts 4) (nth_of ts 5) ≡ form_of ts
-form_in [] = refl
-form_in (a ∷ []) = refl
-form_in (a ∷ b ∷ []) = refl
-form_in (a ∷ b ∷ c ∷ []) = refl
-form_in (a ∷ b ∷ c ∷ d ∷ []) = refl
-form_in (a ∷ b ∷ c ∷ d ∷ e ∷ []) = refl
-form_in (a ∷ b ∷ c ∷ d ∷ e ∷ f ∷ ts) = refl
+-- the form of a line, from its first six tokens
+module _ (ts row : List Lexeme) (r : row ≡ take 6 ts) where
+  fits_same : (f : MachineForm) (b : Bool) → fits_all (wants f) row ≡ b → fits_all (wants f) ts ≡ b
+  fits_same UnitForm b e = sym (fits_take (wants UnitForm) ts 6 (omega arith)) ∙ sym (ap (fits_all (wants UnitForm)) r) ∙ e
+  fits_same Op b e = sym (fits_take (wants Op) ts 6 (omega arith)) ∙ sym (ap (fits_all (wants Op)) r) ∙ e
 
-module _ (a b c d e f : Option Lexeme) where
-  pub unit_parts : row_form a b c d e f ≡ Some UnitForm → (wordy b ≡ true) × (digits c ≡ true)
-  unit_parts h =
-      ⊎_elim
-      (λ (t : unit_in a b c d ≡ true).
-      let x = and_parts _ _ t in let y = and_parts _ _ x.1 in let z = and_parts _ _ y.1 in
-      (y.0, z.0))
-      (λ (t : unit_in a b c d ≡ false).
-      let q : cond (op_in a b c d e f) (Some Op) None ≡ Some UnitForm = sym (simp t) ∙ h in
-      absurd (never (op_in a b c d e f) q))
-      (cases_Bool (unit_in a b c d))
-    where
-      never : (s : Bool) → cond s (Some Op) None ≡ Some UnitForm → ⊥
-      never true q = let z : ◌≡◌ {A = ℕ} 0 1 = cc in omega arith
-      never false q = let z : ◌≡◌ {A = ℕ} 0 1 = cc in omega arith
+  tok_same : (i : ℕ) (t : Lexeme) → i ≤ 5 → t ≡ tok row i → t ≡ tok ts i
+  tok_same i t h e = e ∙ ap (λ xs. tok xs i) r ∙ tok_take ts 6 i (omega arith)
 
-  pub op_parts : row_form a b c d e f ≡ Some Op → (has_some (code_of (text b)) ≡ true) × (digits d ≡ true) × (digits e ≡ true)
-  op_parts h =
-      ⊎_elim
-      (λ (t : unit_in a b c d ≡ true).
-      let q : Some UnitForm ≡ Some Op = sym (simp t) ∙ h in
-      let z : ◌≡◌ {A = ℕ} 0 1 = cc in absurd (omega arith))
-      (λ (t : unit_in a b c d ≡ false).
-      let q : cond (op_in a b c d e f) (Some Op) None ≡ Some Op = sym (simp t) ∙ h in
-      let s = must (op_in a b c d e f) q in
-      let x = and_parts _ _ s in let y = and_parts _ _ x.1 in let z = and_parts _ _ y.1 in let u = and_parts _ _ z.1 in let v = and_parts _ _ u.1 in
-      (y.0, u.0, v.0))
-      (cases_Bool (unit_in a b c d))
-    where
-      must : (s : Bool) → cond s (Some Op) None ≡ Some Op → s ≡ true
-      must true q = refl
-      must false q = let z : ◌≡◌ {A = ℕ} 0 1 = cc in absurd (omega arith)
+  is_unit : fits_all (wants UnitForm) row ≡ true → form_of ts ≡ Some UnitForm
+  is_unit e = simp (fits_same UnitForm true e)
+
+  is_op : fits_all (wants UnitForm) row ≡ false → fits_all (wants Op) row ≡ true → form_of ts ≡ Some Op
+  is_op e f = simp (fits_same UnitForm false e, fits_same Op true f)
+
+  is_none : fits_all (wants UnitForm) row ≡ false → fits_all (wants Op) row ≡ false → form_of ts ≡ None
+  is_none e f = simp (fits_same UnitForm false e, fits_same Op false f)
+
+no_tokens : (ts row : List Lexeme) → row ≡ take 6 ts → length row ≡ 0 → ts ≡ []
+no_tokens [] row r h = refl
+no_tokens (t ∷ ts) row r h = let q = ap length r in absurd (omega arith)
+
+some_tokens : (ts row : List Lexeme) → row ≡ take 6 ts → (length row ≡ 0 → ⊥) → ts ≡ [] → ⊥
+some_tokens ts row r h e = h (ap length r ∙ ap (λ xs. length (take 6 xs)) e)
 
 module _ (m : Machine) (l : Line) where
   pub line_1 : every (between 32 126) l.bytes ≡ false → Err (record { number = 1; line = l.number; column = None }) ≡ line_step machine_rules m l
@@ -70,17 +54,17 @@ module _ (m : Machine) (l : Line) where
     past_1 : line_step machine_rules m l ≡ from_2 (formed l) (form_of (tokens l)) (tokens l)
     past_1 = simp e
 
-    pub line_2 : nth_of (tokens l) 0 ≡ None → Ok m ≡ line_step machine_rules m l
+    line_2 : tokens l ≡ [] → Ok m ≡ line_step machine_rules m l
     line_2 h = go (tokens l) h ∙ sym past_1
       where
-        go : (ts : List Lexeme) → nth_of ts 0 ≡ None → Ok m ≡ from_2 (formed_by (λ xs. has_some (form_of xs)) l.number ts) (form_of ts) ts
+        go : (ts : List Lexeme) → ts ≡ [] → Ok m ≡ from_2 (formed_by (λ xs. has_some (form_of xs)) l.number ts) (form_of ts) ts
         go [] q = ap (λ cs. Ok (record { classes = cs; timings = m.timings })) (sym (append-nil m.classes))
         go (t ∷ ts) q = let z : ◌≡◌ {A = ℕ} 0 1 = cc in absurd (omega arith)
 
-    pub line_3 : (nth_of (tokens l) 0 ≡ None → ⊥) → form_of (tokens l) ≡ None → Err (record { number = 2; line = l.number; column = None }) ≡ line_step machine_rules m l
+    line_3 : (tokens l ≡ [] → ⊥) → form_of (tokens l) ≡ None → Err (record { number = 2; line = l.number; column = None }) ≡ line_step machine_rules m l
     line_3 h o = go (tokens l) h o ∙ sym past_1
       where
-        go : (ts : List Lexeme) → (nth_of ts 0 ≡ None → ⊥) → form_of ts ≡ None → Err (record { number = 2; line = l.number; column = None }) ≡ from_2 (formed_by (λ xs. has_some (form_of xs)) l.number ts) (form_of ts) ts
+        go : (ts : List Lexeme) → (ts ≡ [] → ⊥) → form_of ts ≡ None → Err (record { number = 2; line = l.number; column = None }) ≡ from_2 (formed_by (λ xs. has_some (form_of xs)) l.number ts) (form_of ts) ts
         go [] p q = absurd (p refl)
         go (t ∷ ts) p q = simp q
 
@@ -88,33 +72,30 @@ module _ (m : Machine) (l : Line) where
     has_form [] f q = refl
     has_form (t ∷ ts) f q = simp q
 
-    pub line_form : (f : MachineForm) → form_of (tokens l) ≡ Some f → from_2 good (Some f) (tokens l) ≡ line_step machine_rules m l
+    line_form : (f : MachineForm) → form_of (tokens l) ≡ Some f → from_2 good (Some f) (tokens l) ≡ line_step machine_rules m l
     line_form f q = sym (past_1 ∙ ap (λ a. from_2 a (form_of (tokens l)) (tokens l)) (has_form (tokens l) f q) ∙ ap (λ o. from_2 good o (tokens l)) q)
-
-    pub line_unit : form_of (tokens l) ≡ Some UnitForm → unit_step m l.number (tok (tokens l) 1) (tok (tokens l) 2) ≡ line_step machine_rules m l
-    line_unit q = line_form UnitForm q
 
     abbrev no_class : List Class → Result Machine Refusal
     no_class cs =
         unless (no_or 3 (ranged_by (Some Op) (tokens l)) (no_or 4 (named_by m (Some Op) (tokens l)) None)) (Ok (record { classes = cs; timings = timings_by m (Some Op) (tokens l) }))
 
-    pub line_op : form_of (tokens l) ≡ Some Op → op_step m (tok (tokens l) 1) (tok (tokens l) 2) (tok (tokens l) 3) (tok (tokens l) 4) ≡ line_step machine_rules m l
-    line_op q =
-        ap (λ cs. no_class cs) (sym (append-nil m.classes)) ∙ line_form Op q
+    module _ (row : List Lexeme) (r : row ≡ take 6 (tokens l)) where
+      pub line_unit : (u : UnitLine) → UnitFormed row (Some u) → unit_step m l.number (word_seen u.name) (number_seen u.count) ≡ line_step machine_rules m l
+      line_unit u f =
+          ap (λ t. unit_step m l.number t (number_seen u.count)) (tok_same (tokens l) row r 1 _ (omega arith) f.1)
+          ∙ ap (unit_step m l.number (tok (tokens l) 1)) (tok_same (tokens l) row r 2 _ (omega arith) f.2)
+          ∙ line_form UnitForm (is_unit (tokens l) row r f.0)
 
-module _ (l : Line) where
-  pub form_same : (a b c d e f : Option Lexeme) → a ≡ nth_of (tokens l) 0 → b ≡ nth_of (tokens l) 1 → c ≡ nth_of (tokens l) 2 → d ≡ nth_of (tokens l) 3 → e ≡ nth_of (tokens l) 4 → f ≡ nth_of (tokens l) 5
-      → row_form a b c d e f ≡ form_of (tokens l)
-  form_same a b c d e f ea eb ec ed ee ef =
-      ap (λ x. row_form x b c d e f) ea ∙ ap (λ x. row_form (nth_of (tokens l) 0) x c d e f) eb ∙ ap (λ x. row_form (nth_of (tokens l) 0) (nth_of (tokens l) 1) x d e f) ec
-      ∙ ap (λ x. row_form (nth_of (tokens l) 0) (nth_of (tokens l) 1) (nth_of (tokens l) 2) x e f) ed
-      ∙ ap (λ x. row_form (nth_of (tokens l) 0) (nth_of (tokens l) 1) (nth_of (tokens l) 2) (nth_of (tokens l) 3) x f) ee
-      ∙ ap (row_form (nth_of (tokens l) 0) (nth_of (tokens l) 1) (nth_of (tokens l) 2) (nth_of (tokens l) 3) (nth_of (tokens l) 4)) ef ∙ form_in (tokens l)
+      pub line_op : (o : OpLine) → UnitFormed row None → OpFormed row (Some o) → op_step m (seen o.code_token) (word_seen o.class) (number_seen o.latency) (number_seen o.busy) ≡ line_step machine_rules m l
+      line_op o u f =
+          ap (λ t. op_step m t (word_seen o.class) (number_seen o.latency) (number_seen o.busy)) (tok_same (tokens l) row r 1 _ (omega arith) f.1)
+          ∙ ap (λ t. op_step m (tok (tokens l) 1) t (number_seen o.latency) (number_seen o.busy)) (tok_same (tokens l) row r 2 _ (omega arith) f.2)
+          ∙ ap (λ t. op_step m (tok (tokens l) 1) (tok (tokens l) 2) t (number_seen o.busy)) (tok_same (tokens l) row r 3 _ (omega arith) f.3)
+          ∙ ap (op_step m (tok (tokens l) 1) (tok (tokens l) 2) (tok (tokens l) 3)) (tok_same (tokens l) row r 4 _ (omega arith) f.4)
+          ∙ ap (λ cs. no_class cs) (sym (append-nil m.classes)) ∙ line_form Op (is_op (tokens l) row r u f.0)
 
-pub none_shown : (t : Option Token) → given t ≡ false → shown t ≡ None
-none_shown None e = refl
-none_shown (Some t) e = let z : ◌≡◌ {A = ℕ} 0 1 = cc in absurd (omega arith)
+      pub line_empty : length row ≡ 0 → Ok m ≡ line_step machine_rules m l
+      line_empty h = line_2 (no_tokens (tokens l) row r h)
 
-pub some_shown : (t : Option Token) → given t ≡ true → shown t ≡ None → ⊥
-some_shown None e h = let z : ◌≡◌ {A = ℕ} 0 1 = cc in omega arith
-some_shown (Some t) e h = let z : ◌≡◌ {A = ℕ} 0 1 = cc in omega arith
+      pub line_other : UnitFormed row None → OpFormed row None → (length row ≡ 0 → ⊥) → Err (record { number = 2; line = l.number; column = None }) ≡ line_step machine_rules m l
+      line_other u f h = line_3 (some_tokens (tokens l) row r h) (is_none (tokens l) row r u f)

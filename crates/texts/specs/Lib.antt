@@ -1,3 +1,4 @@
 pub mod Faults
 pub mod Seen
+pub mod Forms
 pub mod Records

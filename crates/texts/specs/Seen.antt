@@ -1,13 +1,10 @@
 -- The records of the code as the definitions have them, and what one line of a machine text does.
-use Rattle.std.specs.Prelude.{ℕ, ◌+◌, Bool, true, false, cond, not, ◌&&◌, List, [], ◌∷◌, ◌++◌, map, length, take, Some, None, Ok, Err, codes, Option, Result, nat_le, slice_index_or, slice_set}
-use Rattle.std.specs.Str.{bytes_eq}
-use Rattle.model.specs.declared.MachineForm.{MachineForm}
-use Rattle.model.specs.declared.MachineForm.TheVariants.{Unit as UnitForm, Op}
+use Rattle.std.specs.Prelude.{ℕ, ◌+◌, not, ◌&&◌, List, [], ◌∷◌, ◌++◌, map, length, Some, None, Ok, Err, Result, nat_le, slice_index_or, slice_set}
 use Rattle.model.specs.Shapes.{has_some, code_of, between, value, is_reserved}
-use Rattle.model.specs.Lines.{Line, Lexeme, is_word, is_digits}
+use Rattle.model.specs.Lines.{Line, Lexeme}
 use Rattle.model.specs.Questions.{asked, at_line, check, each, first_no, unless, Refusal, Rules}
 use Rattle.model.specs.MachineText.{Class, Machine, number_of, class_at, names_class}
-use Rattle.reader.specs.Rows.{or_none}
+use Rattle.few.specs.Held.{held}
 use Rattle.texts.specs.declared.fault.TextFault.{TextFault}
 use Rattle.texts.specs.declared.name.Name.{Name}
 use Rattle.texts.specs.declared.entries.Class.{Class as OwnClass}
@@ -15,7 +12,7 @@ use Rattle.texts.specs.declared.entries.Entries.{Entries}
 use Rattle.texts.specs.Faults.{refusal}
 
 abbrev pub name_seen : Name → List ℕ
-name_seen n = take n.len n.bytes
+name_seen n = held n.bytes
 
 abbrev pub class_seen : OwnClass → Class
 class_seen c = record { name = name_seen c.name; count = c.units }
@@ -24,34 +21,12 @@ abbrev pub classes_seen : List OwnClass → List Class
 classes_seen cs = map class_seen cs
 
 abbrev pub entries_seen : Entries → Machine
-entries_seen m = record { classes = classes_seen (take m.count m.classes); timings = m.timings }
+entries_seen m = record { classes = classes_seen (held m.classes); timings = m.timings }
 
 -- what a call that writes a record answers
 abbrev pub told : {X R : Type 0} → Result X TextFault → R → Result R Refusal
 told (Ok x) m = Ok m
 told (Err f) m = Err (refusal f)
-
-abbrev pub is_none : {X : Type 0} → Option X → Bool
-is_none None = true
-is_none (Some x) = false
-
-abbrev pub text : Option Lexeme → List ℕ
-text o = (or_none o).bytes
-
-abbrev pub wordy : Option Lexeme → Bool
-wordy o = is_word (or_none o).kind
-
-abbrev pub digits : Option Lexeme → Bool
-digits o = is_digits (or_none o).kind
-
-abbrev pub unit_in : Option Lexeme → Option Lexeme → Option Lexeme → Option Lexeme → Bool
-unit_in a b c d = bytes_eq (text a) (codes "unit") && (wordy b && (digits c && is_none d))
-
-abbrev pub op_in : Option Lexeme → Option Lexeme → Option Lexeme → Option Lexeme → Option Lexeme → Option Lexeme → Bool
-op_in a b c d e f = bytes_eq (text a) (codes "op") && (has_some (code_of (text b)) && (wordy c && (digits d && (digits e && is_none f))))
-
-abbrev pub row_form : Option Lexeme → Option Lexeme → Option Lexeme → Option Lexeme → Option Lexeme → Option Lexeme → Option MachineForm
-row_form a b c d e f = cond (unit_in a b c d) (Some UnitForm) (cond (op_in a b c d e f) (Some Op) None)
 
 -- a unit line, from its name and its count
 abbrev pub unit_step : Machine → ℕ → Lexeme → Lexeme → Result Machine Refusal

@@ -1,7 +1,6 @@
-// What a machine text has said so far: its classes, of which the places from `count` on say nothing, and the timing of each code.
-ghost use Rattle.std.specs.Prelude.{◌≤◌};
-
+// What a machine text has said so far: its classes, and the timing of each code.
 use crate::name::Name;
+use few::Few;
 use model::Timing;
 
 #[derive(Clone, Copy)]
@@ -12,8 +11,6 @@ pub struct Class {
 
 #[derive(Clone, Copy)]
 pub struct Entries {
-    pub classes: [Class; 8],
-    pub count: usize,
+    pub classes: Few<Class, 8>,
     pub timings: [Option<Timing>; 6],
-    ghost few: { count ≤ 8 },
 }

@@ -1,6 +1,9 @@
 // Why a text is refused. Each fault has the number of the question that was answered no, and tells a line; line 0 stands for the whole text.
 ghost use Rattle.std.specs.Prelude.{◌≡◌};
 ghost use Rattle.texts.specs.Faults.{refusal};
+ghost use Rattle.texts.specs.declared.fault.TextFault.TheVariants.{OutOfRange, WrongName};
+
+use reader::token::Part;
 
 #[derive(Clone, Copy, PartialEq, Eq, Debug)]
 pub enum TextFault {
@@ -25,6 +28,22 @@ pub enum TextFault {
 }
 
 impl TextFault {
+    // A number out of range.
+    pub fn out_of_range(part: Part<'_>) -> TextFault
+        ensures { result ≡ OutOfRange part.entry.line part.entry.column }
+    {
+        let Part { line, column, .. } = part;
+        TextFault::OutOfRange { line, column }
+    }
+
+    // A name or a code that may not stand here.
+    pub fn wrong_name(part: Part<'_>) -> TextFault
+        ensures { result ≡ WrongName part.entry.line part.entry.column }
+    {
+        let Part { line, column, .. } = part;
+        TextFault::WrongName { line, column }
+    }
+
     pub fn number(&self) -> usize
         ensures { result ≡ (refusal self.now).number }
     {
@@ -43,12 +62,12 @@ impl TextFault {
     {
         match self {
             TextFault::TooLong | TextFault::CodeMissing | TextFault::NoOperation => 0,
-            TextFault::Unprintable { line } => *line,
-            TextFault::NoForm { line } => *line,
-            TextFault::OutOfRange { line, .. } => *line,
-            TextFault::WrongName { line, .. } => *line,
-            TextFault::ManyClasses { line } => *line,
-            TextFault::ManyOperations { line } => *line,
+            TextFault::Unprintable { line }
+            | TextFault::NoForm { line }
+            | TextFault::OutOfRange { line, .. }
+            | TextFault::WrongName { line, .. }
+            | TextFault::ManyClasses { line }
+            | TextFault::ManyOperations { line } => *line,
         }
     }
 
@@ -57,8 +76,9 @@ impl TextFault {
         ensures { result ≡ (refusal self.now).column }
     {
         match self {
-            TextFault::OutOfRange { column, .. } => Some(*column),
-            TextFault::WrongName { column, .. } => Some(*column),
+            TextFault::OutOfRange { column, .. } | TextFault::WrongName { column, .. } => Some(
+                *column,
+            ),
             _ => None,
         }
     }

@@ -1,9 +1,7 @@
 // A name of at most eight bytes.
-ghost use Rattle.std.specs.Prelude.{◌≤◌};
+use few::Few;
 
 #[derive(Clone, Copy)]
 pub struct Name {
-    pub bytes: [u8; 8],
-    pub len: usize,
-    ghost fits: { len ≤ 8 },
+    pub(crate) bytes: Few<u8, 8>,
 }

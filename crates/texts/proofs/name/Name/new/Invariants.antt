@@ -1,5 +1,6 @@
-use Rattle.std.proofs.Common.{◌≡◌, length, take}
+use Rattle.std.proofs.Common.{◌≡◌, ◌≤◌, length, take}
+use Rattle.few.specs.Held.{held}
 use Rattle.texts.proofs.name.Name.new.Given as goal
 
-abbrev pub invariant-loop-i : goal.invariant-loop-i
-invariant-loop-i l = (take l.i l.bytes ≡ take l.i l.word) × (length l.bytes ≡ 8)
+abbrev pub invariant-loop-b : goal.invariant-loop-b
+invariant-loop-b l = (held l.bytes ≡ take l.b-index l.word) × (length l.word ≤ 8)
