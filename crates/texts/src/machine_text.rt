@@ -86,10 +86,8 @@ fn unit_line(m: &mut Entries, number: usize, said: UnitLine<'_>) -> Result<(), T
         name: Name::from(said.name),
         units,
     };
-    if m.classes.push(class).is_err() {
-        return Err(TextFault::ManyClasses { line: number });
-    }
-    Ok(())
+    let pushed = m.classes.push(class);
+    pushed.map_err(|_| TextFault::ManyClasses { line: number })
 }
 
 fn op_line(m: &mut Entries, said: OpLine<'_>) -> Result<(), TextFault>
@@ -107,9 +105,8 @@ fn op_line(m: &mut Entries, said: OpLine<'_>) -> Result<(), TextFault>
     if m.timings[code].is_some() {
         return Err(TextFault::wrong_name(said.code_token.part()));
     }
-    let Some(class) = place_of(m.classes.as_slice(), said.class.part.text) else {
-        return Err(TextFault::wrong_name(said.class.part));
-    };
+    let place = place_of(m.classes.as_slice(), said.class.part.text);
+    let class = place.ok_or(TextFault::wrong_name(said.class.part))?;
     m.timings[code] = Some(Timing {
         class,
         latency,
