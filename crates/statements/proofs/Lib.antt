@@ -1,4 +1,3 @@
-pub mod LoopSteps
+pub mod Finding
 pub mod InRange
-pub mod Uses
-pub mod ByCase
+pub mod LoopSteps

@@ -1,9 +1,10 @@
 // The loop text: its statements and their reading, names not yet looked up.
 #![tactic(auto)]
 
-pub(crate) mod loop_form;
+mod forms;
+mod loop_form;
 pub mod loop_text;
-pub(crate) mod operands;
+mod operands;
 pub mod readings;
 pub mod shown;
 pub mod statement;

@@ -1,76 +1,104 @@
 // The form of a line of the loop text.
-ghost use Rattle.std.specs.Prelude.{◌≡◌, Bool, true, false};
-ghost use Rattle.reader.specs.Seen.{shown};
-ghost use Rattle.statements.specs.Statements.{load_in, store_in, two_in, binary_in, move_in, loop_form_in};
+ghost use Rattle.std.specs.Prelude.{◌≡◌, map};
+ghost use Rattle.model.specs.declared.Code.TheVariants.{Load, Store, Move};
+ghost use Rattle.reader.specs.Seen.{seen};
+ghost use Rattle.statements.specs.Forms.{Formed, FormFound, BinaryFormed, NameDefined, binary_word};
 
-use model::Code;
-use reader::row::{Row, is_digits, is_operand, is_word, text_of};
-use reader::shapes::same;
+use crate::forms::{Form, Place};
+use model::Operator;
+use reader::token::{Token, Word};
 
-fn is_load(row: Row<'_>) -> bool
-    ensures { result ≡ load_in (shown row.entry.t0) (shown row.entry.t1) (shown row.entry.t2) (shown row.entry.t3) (shown row.entry.t4) (shown row.entry.t5) }
+// The name in front of an equals sign.
+fn defined_name<'a>(name: &Token<'a>, equals: &Token<'a>) -> Option<Word<'a>>
+    ensures { NameDefined (seen name.now) (seen equals.now) result }
 {
-    is_word(row.t0)
-        && same(text_of(row.t1), b"=")
-        && same(text_of(row.t2), b"load")
-        && is_digits(row.t3)
-        && is_digits(row.t4)
-        && row.t5.is_none()
-}
-
-fn is_store(row: Row<'_>) -> bool
-    ensures { result ≡ store_in (shown row.entry.t0) (shown row.entry.t1) (shown row.entry.t2) (shown row.entry.t3) (shown row.entry.t4) }
-{
-    same(text_of(row.t0), b"store")
-        && is_operand(row.t1)
-        && is_digits(row.t2)
-        && is_digits(row.t3)
-        && row.t4.is_none()
-}
-
-// Whether the last two tokens of a form with five are operands.
-fn ends_in_two(row: Row<'_>) -> bool
-    ensures { result ≡ two_in (shown row.entry.t3) (shown row.entry.t4) (shown row.entry.t5) }
-{
-    is_operand(row.t3) && is_operand(row.t4) && row.t5.is_none()
-}
-
-fn is_binary(row: Row<'_>, word: &[u8]) -> bool
-    ensures { result ≡ binary_in word.now (shown row.entry.t0) (shown row.entry.t1) (shown row.entry.t2) (shown row.entry.t3) (shown row.entry.t4) (shown row.entry.t5) }
-{
-    is_word(row.t0)
-        && same(text_of(row.t1), b"=")
-        && same(text_of(row.t2), word)
-        && ends_in_two(row)
-}
-
-fn is_move(row: Row<'_>) -> bool
-    ensures { result ≡ move_in (shown row.entry.t0) (shown row.entry.t1) (shown row.entry.t2) (shown row.entry.t3) (shown row.entry.t4) }
-{
-    is_word(row.t0)
-        && same(text_of(row.t1), b"=")
-        && same(text_of(row.t2), b"move")
-        && is_operand(row.t3)
-        && row.t4.is_none()
-}
-
-// The code of a line that has a form.
-pub(crate) fn find_loop_form(row: Row<'_>) -> Option<Code>
-    ensures { result ≡ loop_form_in (shown row.entry.t0) (shown row.entry.t1) (shown row.entry.t2) (shown row.entry.t3) (shown row.entry.t4) (shown row.entry.t5) }
-{
-    if is_load(row) {
-        Some(Code::Load)
-    } else if is_store(row) {
-        Some(Code::Store)
-    } else if is_binary(row, b"add") {
-        Some(Code::Add)
-    } else if is_binary(row, b"sub") {
-        Some(Code::Sub)
-    } else if is_binary(row, b"mul") {
-        Some(Code::Mul)
-    } else if is_move(row) {
-        Some(Code::Move)
-    } else {
-        None
+    if !equals.says(b"=") {
+        return None;
     }
+    name.word()
+}
+
+fn load_form<'a>(row: &[Token<'a>]) -> Option<Form<'a>>
+    ensures { Formed Load (map seen row.now) result }
+{
+    let [name, equals, code, stride, offset] = row else {
+        return None;
+    };
+    let name = defined_name(name, equals)?;
+    if !code.says(b"load") {
+        return None;
+    }
+    let place = Place {
+        stride: stride.number()?,
+        offset: offset.number()?,
+    };
+    Some(Form::Load(name, place))
+}
+
+fn store_form<'a>(row: &[Token<'a>]) -> Option<Form<'a>>
+    ensures { Formed Store (map seen row.now) result }
+{
+    let [code, value, stride, offset] = row else {
+        return None;
+    };
+    if !code.says(b"store") {
+        return None;
+    }
+    let value = value.operand()?;
+    let place = Place {
+        stride: stride.number()?,
+        offset: offset.number()?,
+    };
+    Some(Form::Store(value, place))
+}
+
+// The word of a sum, a difference or a product.
+fn word_of(operator: Operator) -> &'static [u8]
+    ensures { result.now ≡ binary_word operator }
+{
+    match operator {
+        Operator::Plus => b"add",
+        Operator::Minus => b"sub",
+        Operator::Times => b"mul",
+    }
+}
+
+fn binary_form<'a>(row: &[Token<'a>], operator: Operator) -> Option<Form<'a>>
+    ensures { BinaryFormed operator (map seen row.now) result }
+{
+    let [name, equals, code, left, right] = row else {
+        return None;
+    };
+    let name = defined_name(name, equals)?;
+    if !code.says(word_of(operator)) {
+        return None;
+    }
+    let left = left.operand()?;
+    let right = right.operand()?;
+    Some(Form::Binary(name, operator, left, right))
+}
+
+fn move_form<'a>(row: &[Token<'a>]) -> Option<Form<'a>>
+    ensures { Formed Move (map seen row.now) result }
+{
+    let [name, equals, code, value] = row else {
+        return None;
+    };
+    let name = defined_name(name, equals)?;
+    if !code.says(b"move") {
+        return None;
+    }
+    Some(Form::Move(name, value.operand()?))
+}
+
+// What a line that has a form is.
+pub(crate) fn find_loop_form<'a>(row: &[Token<'a>]) -> Option<Form<'a>>
+    ensures { FormFound (map seen row.now) result }
+{
+    load_form(row)
+        .or(store_form(row))
+        .or(binary_form(row, Operator::Plus))
+        .or(binary_form(row, Operator::Minus))
+        .or(binary_form(row, Operator::Times))
+        .or(move_form(row))
 }

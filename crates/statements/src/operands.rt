@@ -1,106 +1,78 @@
 // Operands and cells of a line, with question 3: is each number in range?
-ghost use Rattle.std.specs.Prelude.{◌≡◌, ℕ, ◌+◌, ◌<◌, ◌≤◌, Bool, true, false, ◌&&◌, [], ◌∷◌, Ok};
+ghost use Rattle.std.specs.Prelude.{◌≡◌, ◌<◌, [], ◌∷◌, Ok};
+ghost use Rattle.model.specs.LoopText.{use_of, operand_check, at_most, a_stride, an_offset};
 ghost use Rattle.model.specs.Shapes.{value as amount_of};
-ghost use Rattle.model.specs.LoopText.{operand_fine, written_by, use_of, operand_check, at_most, a_stride, an_offset};
-ghost use Rattle.reader.specs.Seen.{seen, shown};
-ghost use Rattle.reader.specs.Rows.{or_none, Fit};
-ghost use Rattle.statements.specs.Statements.{written_seen, use_seen, in_range_or, cell_seen};
+ghost use Rattle.reader.specs.Seen.{operand_seen, number_seen};
 ghost use Rattle.texts.specs.Seen.{answered};
+ghost use Rattle.statements.specs.Statements.{use_seen, in_range_or, cell_seen};
+ghost use Rattle.statements.specs.Forms.{WrittenAs};
 
+use crate::forms::Place;
 use crate::statement::{Use, Written};
 use operations::Cell;
-use reader::row::part_of;
-use reader::shapes::{after_at, byte_at, name_of, tail};
-use reader::token::Token;
-use reader::words::{value_of, within};
+use reader::token::{Number, Operand};
 use texts::fault::TextFault;
-use texts::machine_text::out_of_range;
 use texts::name::Name;
 
-// Whether the number in an operand, if any, is in range.
-fn operand_fine(t: Token<'_>) -> bool
-    requires { Fit (seen t) }
-    ensures { result ≡ operand_fine (seen t.entry).kind (seen t.entry).bytes }
+// What an operand says, unless its number is out of range.
+fn written_of(operand: Operand<'_>) -> Option<Written>
+    ensures { WrittenAs (operand_seen operand.entry) result }
 {
-    match t {
-        Token::Word(_) => true,
-        Token::Number(p) => value_of(p.text) <= 32767,
-        Token::Operand(p) => {
-            if byte_at(p.text, 0) == b'-' {
-                return value_of(tail(p.text, 1)) <= 32768;
+    match operand {
+        Operand::Word(word) => Some(Written::Named(Name::from(word), 0)),
+        Operand::Number(number) => {
+            let size = number.value();
+            if size > 32767 {
+                return None;
             }
-            within(value_of(after_at(p.text)), 1, 7)
+            Some(Written::Numeral(size as i32))
         }
-        Token::Other(_) => false,
-    }
-}
-
-// What an operand in range says.
-fn written_of(t: Token<'_>) -> Written
-    requires fit { Fit (seen t) }
-    requires fine { operand_fine (seen t).kind (seen t).bytes ≡ true }
-    ensures { written_seen result ≡ written_by (seen t.entry).kind (seen t.entry).bytes }
-{
-    match t {
-        Token::Word(p) => Written::Named(Name::new(p.text), 0),
-        Token::Number(p) => Written::Numeral(value_of(p.text) as i32),
-        Token::Operand(p) => {
-            if byte_at(p.text, 0) == b'-' {
-                return Written::Numeral(-(value_of(tail(p.text, 1)) as i32));
+        Operand::Negative(number) => {
+            let size = number.size();
+            if size > 32768 {
+                return None;
             }
-            Written::Named(Name::new(name_of(p.text)), value_of(after_at(p.text)))
+            Some(Written::Numeral(-(size as i32)))
         }
-        Token::Other(_) => Written::Numeral(0),
+        Operand::Earlier(earlier) => {
+            let distance = earlier.distance();
+            if !(1..=7).contains(&distance) {
+                return None;
+            }
+            Some(Written::Named(Name::from(earlier.name()), distance))
+        }
     }
 }
 
 // An operand, unless its number is out of range.
-pub(crate) fn use_of(t: Option<Token<'_>>) -> Result<Use, TextFault>
-    requires { Fit (or_none (shown t)) }
-    ensures { answered use_seen result ≡ in_range_or (operand_check (or_none (shown t.entry)) ∷ []) (Ok (use_of (or_none (shown t.entry)))) }
+pub(crate) fn use_of(operand: Operand<'_>) -> Result<Use, TextFault>
+    ensures { answered use_seen result ≡ in_range_or (operand_check (operand_seen operand.entry) ∷ []) (Ok (use_of (operand_seen operand.entry))) }
 {
-    let Some(token) = t else {
-        return Err(out_of_range(t));
-    };
-    if !operand_fine(token) {
-        return Err(out_of_range(t));
-    }
-    let part = part_of(t);
+    let part = operand.part();
+    let operand = written_of(operand).ok_or(TextFault::out_of_range(part))?;
     Ok(Use {
-        operand: written_of(token),
+        operand,
         line: part.line,
         column: part.column,
     })
 }
 
 // A number, unless it is above a bound.
-fn number_to(t: Option<Token<'_>>, hi: usize) -> Result<usize, TextFault>
-    requires { Fit (or_none (shown t)) }
-    ensures { answered (λ n. n) result ≡ in_range_or (at_most hi (or_none (shown t.entry)) ∷ []) (Ok (amount_of (or_none (shown t.entry)).bytes)) }
+fn number_to(number: Number<'_>, most: usize) -> Result<usize, TextFault>
+    ensures { answered (λ n. n) result ≡ in_range_or (at_most most (number_seen number.entry) ∷ []) (Ok (amount_of number.entry.part.text.now)) }
 {
-    let Some(token) = t else {
-        return Err(out_of_range(t));
-    };
-    let Token::Number(part) = token else {
-        return Err(out_of_range(t));
-    };
-    let n = value_of(part.text);
-    if n > hi {
-        return Err(out_of_range(t));
+    let n = number.value();
+    if n > most {
+        return Err(TextFault::out_of_range(number.part));
     }
     Ok(n)
 }
 
 // A stride and an offset, unless one of them is out of range.
-pub(crate) fn cell_of(
-    stride: Option<Token<'_>>,
-    offset: Option<Token<'_>>,
-) -> Result<Cell, TextFault>
-    requires stride { Fit (or_none (shown stride)) }
-    requires offset { Fit (or_none (shown offset)) }
-    ensures { answered cell_seen result ≡ in_range_or (a_stride (or_none (shown stride.entry)) ∷ an_offset (or_none (shown offset.entry)) ∷ []) (Ok (amount_of (or_none (shown stride.entry)).bytes, amount_of (or_none (shown offset.entry)).bytes)) }
+pub(crate) fn cell_of(place: Place<'_>) -> Result<Cell, TextFault>
+    ensures { answered cell_seen result ≡ in_range_or (a_stride (number_seen place.entry.stride) ∷ an_offset (number_seen place.entry.offset) ∷ []) (Ok (amount_of place.entry.stride.part.text.now, amount_of place.entry.offset.part.text.now)) }
 {
-    let stride = number_to(stride, 16)?;
-    let offset = number_to(offset, 65535)?;
+    let stride = number_to(place.stride, 16)?;
+    let offset = number_to(place.offset, 65535)?;
     Ok(Cell { stride, offset })
 }

@@ -32,17 +32,10 @@ module _ (ts row : List Lexeme) (r : row ≡ take 6 ts) where
   is_none : fits_all (wants UnitForm) row ≡ false → fits_all (wants Op) row ≡ false → form_of ts ≡ None
   is_none e f = simp (fits_same UnitForm false e, fits_same Op false f)
 
-no_tokens : (ts row : List Lexeme) → row ≡ take 6 ts → length row ≡ 0 → ts ≡ []
-no_tokens [] row r h = refl
-no_tokens (t ∷ ts) row r h = let q = ap length r in absurd (omega arith)
-
 some_tokens : (ts row : List Lexeme) → row ≡ take 6 ts → (length row ≡ 0 → ⊥) → ts ≡ [] → ⊥
 some_tokens ts row r h e = h (ap length r ∙ ap (λ xs. length (take 6 xs)) e)
 
 module _ (m : Machine) (l : Line) where
-  pub line_1 : every (between 32 126) l.bytes ≡ false → Err (record { number = 1; line = l.number; column = None }) ≡ line_step machine_rules m l
-  line_1 e = simp e
-
   module _ (e : every (between 32 126) l.bytes ≡ true) where
     abbrev adds_by : Option MachineForm → List Lexeme → Machine
     adds_by o ts = record { classes = m.classes ++ class_by o ts; timings = timings_by m o ts }
@@ -53,13 +46,6 @@ module _ (m : Machine) (l : Line) where
 
     past_1 : line_step machine_rules m l ≡ from_2 (formed l) (form_of (tokens l)) (tokens l)
     past_1 = simp e
-
-    line_2 : tokens l ≡ [] → Ok m ≡ line_step machine_rules m l
-    line_2 h = go (tokens l) h ∙ sym past_1
-      where
-        go : (ts : List Lexeme) → ts ≡ [] → Ok m ≡ from_2 (formed_by (λ xs. has_some (form_of xs)) l.number ts) (form_of ts) ts
-        go [] q = ap (λ cs. Ok (record { classes = cs; timings = m.timings })) (sym (append-nil m.classes))
-        go (t ∷ ts) q = let z : ◌≡◌ {A = ℕ} 0 1 = cc in absurd (omega arith)
 
     line_3 : (tokens l ≡ [] → ⊥) → form_of (tokens l) ≡ None → Err (record { number = 2; line = l.number; column = None }) ≡ line_step machine_rules m l
     line_3 h o = go (tokens l) h o ∙ sym past_1
@@ -93,9 +79,6 @@ module _ (m : Machine) (l : Line) where
           ∙ ap (λ t. op_step m (tok (tokens l) 1) (tok (tokens l) 2) t (number_seen o.busy)) (tok_same (tokens l) row r 3 _ (omega arith) f.3)
           ∙ ap (op_step m (tok (tokens l) 1) (tok (tokens l) 2) (tok (tokens l) 3)) (tok_same (tokens l) row r 4 _ (omega arith) f.4)
           ∙ ap (λ cs. no_class cs) (sym (append-nil m.classes)) ∙ line_form Op (is_op (tokens l) row r u f.0)
-
-      pub line_empty : length row ≡ 0 → Ok m ≡ line_step machine_rules m l
-      line_empty h = line_2 (no_tokens (tokens l) row r h)
 
       pub line_other : UnitFormed row None → OpFormed row None → (length row ≡ 0 → ⊥) → Err (record { number = 2; line = l.number; column = None }) ≡ line_step machine_rules m l
       line_other u f h = line_3 (some_tokens (tokens l) row r h) (is_none (tokens l) row r u f)

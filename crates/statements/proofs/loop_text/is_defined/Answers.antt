@@ -1,18 +1,13 @@
-use Rattle.std.proofs.Common.{sym, ◌∙◌}
+use Rattle.std.proofs.Common.{sym, ◌∙◌, rules}
+use Rattle.std.proofs.lemmas.Iterator.Search.{any_from_yields_List}
+use Rattle.std.proofs.lemmas.Iterator.{YieldsList-from_slice}
+use borrow.Author.Tests.{tests}
 use Rattle.model.specs.LoopText.{same_name}
 use Rattle.statements.specs.Statements.{statement_seen}
-use Rattle.statements.proofs.Uses.{some_yes, some_no, some_end}
+use Rattle.statements.proofs.LoopSteps.{some-map}
 use Rattle.statements.proofs.loop_text.is_defined.Goals as goal
 
-pub returns-then-defines : goal.returns-then-defines
-returns-then-defines c =
-    sym (some_yes statement_seen (λ s. same_name c.args.word.now s.defines) c.args.statements.now c.loop-s.s-index c.s-item.result c.loop-s-test.true c.s-item.is
-    (sym c.defines.ensures ∙ c.if-defines.true)) ∙ c.loop-s.invariant
-
-pub loop-s-preserved : goal.loop-s-preserved
-loop-s-preserved c =
-    sym (some_no statement_seen (λ s. same_name c.args.word.now s.defines) c.args.statements.now c.loop-s.s-index c.s-item.result c.loop-s-test.true c.s-item.is
-    (sym c.defines.ensures ∙ c.if-defines.false)) ∙ c.loop-s.invariant
-
 pub returns : goal.returns
-returns c = sym (some_end statement_seen (λ s. same_name c.args.word.now s.defines) c.args.statements.now c.loop-s.s-index c.loop-s-test.false) ∙ c.loop-s.invariant
+returns c =
+    any_from_yields_List (λ s. same_name c.args.word.now (statement_seen s).defines) _ _ c.any.result c.any.ensures.ran (YieldsList-from_slice c.args.statements.now cc) (λ x b q k. search (rules, tests))
+    ∙ sym (some-map (λ s. same_name c.args.word.now s.defines) statement_seen c.args.statements.now)
