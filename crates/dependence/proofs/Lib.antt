@@ -1,3 +1,2 @@
 pub mod Definers
 pub mod Split
-pub mod Filled

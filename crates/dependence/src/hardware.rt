@@ -43,12 +43,13 @@ pub fn timings_of(machine: &Machine, l: &Loop) -> Few<Timing, 32>
 // The units of each class, and 0 behind the last.
 pub fn units_of(machine: &Machine) -> [usize; 8]
     ensures whole { length result ≡ 8 }
-    ensures value { take machine.now.entries.count result ≡ units_of (machine_seen machine.now) }
-    ensures behind { (u : ℕ) → machine.now.entries.count ≤ u → slice_index result u ≡ 0 }
+    ensures value { take machine.now.entries.classes.len result ≡ units_of (machine_seen machine.now) }
+    ensures behind { (u : ℕ) → machine.now.entries.classes.len ≤ u → slice_index result u ≡ 0 }
 {
     let mut units = [0usize; 8];
-    for i in 0..machine.entries.count {
-        units[i] = machine.entries.classes[i].units;
+    let classes = machine.entries.classes.as_slice();
+    for (place, class) in classes.iter().enumerate() {
+        units[place] = class.units;
     }
     units
 }

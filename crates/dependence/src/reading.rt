@@ -17,7 +17,6 @@ use crate::fault::GraphFault;
 use crate::loops::Loop;
 use crate::operation::{Operand, Operation};
 use few::Few;
-use reader::shapes::same;
 use statements::loop_text::{defines, is_defined};
 use statements::statement::{Action, Statement, Use, Written};
 use statements::statements::Statements;

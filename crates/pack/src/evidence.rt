@@ -109,7 +109,7 @@ fn show_class(
     timings: &[Timing],
     class: usize,
 ) -> io::Result<()> {
-    let classes = &machine.entries.classes[0..machine.entries.count];
+    let classes = machine.entries.classes.as_slice();
     if class >= classes.len() {
         return writeln!(out, "");
     }
@@ -171,7 +171,7 @@ pub(crate) fn show_minimum(
     let timings = timings_of(machine, body);
     let timings = timings.as_slice();
     let units = units_of(machine);
-    let units = &units[0..machine.entries.count];
+    let units = &units[0..machine.entries.classes.as_slice().len()];
     let operations = body.operations();
     match minimum(edges, timings, units) {
         Ok(found) => show_witness(out, machine, timings, edges, operations, &found),

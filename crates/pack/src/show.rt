@@ -54,7 +54,7 @@ fn show_timing(
 // The classes with their units, and the codes with class, latency and busy time.
 pub(crate) fn show_machine(out: &mut impl Write, machine: &Machine) -> io::Result<()> {
     let entries = machine.entries;
-    let classes = &entries.classes[0..entries.count];
+    let classes = entries.classes.as_slice();
     for class in classes {
         show_class(out, class)?;
     }

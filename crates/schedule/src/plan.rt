@@ -27,7 +27,7 @@ pub fn schedule_loop<S: Scheme>(
         source: l,
         edges,
         timings: timings.as_slice(),
-        units: &units[..machine.entries.count],
+        units: &units[..machine.entries.classes.as_slice().len()],
     };
     let minimum = minimum(edges, problem.timings, problem.units)?;
     problem.choose(scheme, minimum).ok_or(NoSchedule::NotTaken)

@@ -1,48 +1,7 @@
 -- The forms of a line.
-use Rattle.std.proofs.Common.{◌≡◌, ℕ, true, false, cond, List, length, drop, Some, None, codes, Option, sym, refl, ap, ◌∙◌, arith}
-use Rattle.std.specs.Option as options
-use Rattle.std.proofs.lemmas.Bool.{and_parts, and_from, and_left, and_right, cond-true, cond-false}
-use Rattle.std.specs.Str.{bytes_eq}
-use Rattle.model.specs.Shapes.{has_some}
-use Rattle.script.specs.Escapes.{unescaped}
-use Rattle.script.specs.Spelling.{length_in}
-use Rattle.script.specs.Cells.{count_of}
-use Rattle.script.specs.declared.line.SchemeName.TheVariants.{Rotating, Expanded}
-use Rattle.script.specs.declared.line.DomainName.TheVariants.{Words, Floats}
-use Rattle.script.specs.Script.{DomainName, begins, is_quoted, body_of, or_empty, quoted, expand_of, run_of, run_by, words_of, buffers, next_length, rest, cells_fit, setting_of, scheme, domain, wrong}
-
-pub length_some : (o : Option (List ℕ)) → options.is_some (length_in o) ≡ has_some o
-length_some None = refl
-length_some (Some t) = refl
-
-some_is : (o : Option (List ℕ)) → has_some o ≡ true → Some (or_empty o) ≡ o
-some_is None e = let z : ◌≡◌ {A = ℕ} 0 1 = cc in absurd (omega arith)
-some_is (Some t) e = refl
-
-module _ (start l : List ℕ) where
-  pub quoted_yes : (b : List ℕ) → begins start l ≡ true → is_quoted (drop (length start) l) ≡ true → b ≡ body_of (drop (length start) l) → Some (or_empty (unescaped b)) ≡ quoted start l
-  unfolding quoted
-  quoted_yes b p q e =
-      ap (λ x. Some (or_empty (unescaped x))) e
-      ∙ some_is (unescaped (body_of (drop (length start) l))) (and_parts _ _ q).1
-      ∙ sym (cond-true _ _ _ (and_from _ _ p q))
-
-  pub quoted_other : begins start l ≡ false → None ≡ quoted start l
-  unfolding quoted
-  quoted_other p = sym (cond-false _ _ _ (and_left _ _ p))
-
-  pub quoted_not : is_quoted (drop (length start) l) ≡ false → None ≡ quoted start l
-  unfolding quoted
-  quoted_not q = sym (cond-false _ _ _ (and_right _ _ q))
-
-module _ (l : List ℕ) where
-  pub expand_yes : begins (codes "expand ") l ≡ true → count_of (drop 7 l) ≡ expand_of l
-  unfolding expand_of
-  expand_yes p = sym (cond-true _ _ _ p)
-
-  pub expand_other : begins (codes "expand ") l ≡ false → None ≡ expand_of l
-  unfolding expand_of
-  expand_other p = sym (cond-false _ _ _ p)
+use Rattle.std.proofs.Common.{◌≡◌, ℕ, true, false, cond, List, drop, Some, None, codes, sym, ap, ◌∙◌}
+use Rattle.std.proofs.lemmas.Bool.{cond-true, cond-false}
+use Rattle.script.specs.Script.{DomainName, begins, run_of, run_by, words_of, buffers, next_length, rest, cells_fit}
 
 module _ (d : DomainName) (l : List ℕ) where
   pub run_yes : begins (codes "run ") l ≡ true → run_by d (words_of (drop 3 l)) ≡ run_of d l
@@ -85,27 +44,3 @@ module _ (d : DomainName) (l : List ℕ) (p : begins (codes "run ") l ≡ true) 
 
     pub all_there : cells_fit d m w3 ≡ true → Some (record { memory = m; values = v; waiting = w; cells = w3 }) ≡ run_of d l
     all_there e = sym (cond-true _ _ _ e) ∙ by_lengths
-
-module _ (l : List ℕ) where
-  pub is_rotating : bytes_eq l (codes "scheme rotating") ≡ true → scheme Rotating ≡ setting_of l
-  unfolding setting_of
-  is_rotating a = sym (cond-true _ _ _ a)
-
-  module _ (a : bytes_eq l (codes "scheme rotating") ≡ false) where
-    pub is_expanded : bytes_eq l (codes "scheme expanded") ≡ true → scheme Expanded ≡ setting_of l
-    unfolding setting_of
-    is_expanded b = sym (cond-false _ _ _ a ∙ cond-true _ _ _ b)
-
-    module _ (b : bytes_eq l (codes "scheme expanded") ≡ false) where
-      pub is_words : bytes_eq l (codes "domain words") ≡ true → domain Words ≡ setting_of l
-      unfolding setting_of
-      is_words c = sym (cond-false _ _ _ a ∙ cond-false _ _ _ b ∙ cond-true _ _ _ c)
-
-      module _ (c : bytes_eq l (codes "domain words") ≡ false) where
-        pub is_floats : bytes_eq l (codes "domain floats") ≡ true → domain Floats ≡ setting_of l
-        unfolding setting_of
-        is_floats d = sym (cond-false _ _ _ a ∙ cond-false _ _ _ b ∙ cond-false _ _ _ c ∙ cond-true _ _ _ d)
-
-        pub is_wrong : bytes_eq l (codes "domain floats") ≡ false → wrong ≡ setting_of l
-        unfolding setting_of
-        is_wrong d = sym (cond-false _ _ _ a ∙ cond-false _ _ _ b ∙ cond-false _ _ _ c ∙ cond-false _ _ _ d)

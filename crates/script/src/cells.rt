@@ -1,40 +1,21 @@
 // Numbers and cells as a script writes them.
 ghost use Rattle.std.specs.Prelude.{◌≡◌, ℕ, ◌+◌, ◌*◌, ◌^◌, ◌<◌, ◌≤◌, Bool, true, false, length, fold};
-ghost use Rattle.model.specs.Shapes.{every, digit, value as amount_of};
+ghost use Rattle.model.specs.Shapes.{every};
 ghost use Rattle.script.specs.Escapes.{hex_digit, hex_value};
-ghost use Rattle.script.specs.Cells.{is_digits, count_of, length_of, word_of, hex_number, float_of, is_cell};
+ghost use Rattle.script.specs.Cells.{count_of, length_of, word_of, hex_number, float_of, is_cell};
 
 use crate::escapes::{hex_value, is_hex};
 use crate::line::DomainName;
-use reader::shapes::{all_between, same};
+use reader::shapes::is_digits;
+use reader::words::digits_value;
 use std::num::f64_from_bits_with_nan;
-
-// Whether a word is 1 to `most` decimal digits.
-fn is_digits(s: &[u8], most: usize) -> bool
-    ensures { result ≡ is_digits most s.now }
-{
-    s.len() >= 1 && s.len() <= most && all_between(s, b'0', b'9')
-}
-
-// The value of at most ten decimal digits.
-fn value_of(s: &[u8]) -> usize
-    requires digits { every digit s.now ≡ true }
-    requires few { length s.now ≤ 10 }
-    ensures { result ≡ amount_of s.now }
-{
-    let mut n: usize = 0;
-    for b in s {
-        n = n * 10 + (*b - b'0') as usize;
-    }
-    n
-}
 
 // A number of 1 to 9 digits.
 pub(crate) fn count_of(s: &[u8]) -> Option<usize>
     ensures { result ≡ count_of s.now }
 {
     if is_digits(s, 9) {
-        Some(value_of(s))
+        Some(digits_value(s))
     } else {
         None
     }
@@ -47,7 +28,7 @@ pub(crate) fn length_of(s: &[u8]) -> Option<usize>
     if !is_digits(s, 9) {
         return None;
     }
-    let n = value_of(s);
+    let n = digits_value(s);
     if n <= 1048576 { Some(n) } else { None }
 }
 
@@ -58,19 +39,14 @@ pub fn word_of(s: &[u8]) -> Option<u32>
     if !is_digits(s, 10) {
         return None;
     }
-    let n = value_of(s);
+    let n = digits_value(s);
     if n < 4294967296 { Some(n as u32) } else { None }
 }
 
 fn all_hex(s: &[u8]) -> bool
     ensures { result ≡ every hex_digit s.now }
 {
-    for b in s {
-        if !is_hex(*b) {
-            return false;
-        }
-    }
-    true
+    s.iter().all(|b| is_hex(*b))
 }
 
 // The value of at most 16 hexadecimal digits.
@@ -89,7 +65,7 @@ fn hex_number(s: &[u8]) -> u64
 pub fn float_of(s: &[u8]) -> Option<f64>
     ensures { result ≡ float_of s.now }
 {
-    if same(s, b"nan") {
+    if s == b"nan".as_slice() {
         return Some(f64::NAN);
     }
     if s.len() == 16 && all_hex(s) {

@@ -23,19 +23,28 @@ pub enum Step {
 pub(crate) fn is_hex(b: u8) -> bool
     ensures { result ≡ hex_digit b }
 {
-    (b >= b'0' && b <= b'9') || (b >= b'a' && b <= b'f')
+    matches!(b, b'0'..=b'9' | b'a'..=b'f')
 }
 
 pub(crate) fn hex_value(b: u8) -> u8
     ensures value { result ≡ hex_value b }
     ensures small { result < 16 }
 {
-    if b >= b'0' && b <= b'9' {
-        b - b'0'
-    } else if b >= b'a' && b <= b'f' {
-        b - b'a' + 10
-    } else {
-        0
+    match b {
+        b'0'..=b'9' => b - b'0',
+        b'a'..=b'f' => b - b'a' + 10,
+        _ => 0,
+    }
+}
+
+// Outside an escape.
+fn plain(b: u8) -> Step
+    ensures { result ≡ step_of After.Plain b }
+{
+    match b {
+        b'\\' => Step::Turn(After::Backslash),
+        b'"' => Step::Wrong,
+        _ => Step::Put(b),
     }
 }
 
@@ -43,14 +52,11 @@ pub(crate) fn hex_value(b: u8) -> u8
 fn escape(b: u8) -> Step
     ensures { result ≡ step_of After.Backslash b }
 {
-    if b == b'n' {
-        Step::Put(10)
-    } else if b == b'\\' || b == b'"' {
-        Step::Put(b)
-    } else if b == b'x' {
-        Step::Turn(After::Hex)
-    } else {
-        Step::Wrong
+    match b {
+        b'n' => Step::Put(10),
+        b'\\' | b'"' => Step::Put(b),
+        b'x' => Step::Turn(After::Hex),
+        _ => Step::Wrong,
     }
 }
 
@@ -58,30 +64,11 @@ fn effect(after: After, b: u8) -> Step
     ensures { result ≡ step_of after b }
 {
     match after {
-        After::Plain => {
-            if b == b'\\' {
-                Step::Turn(After::Backslash)
-            } else if b == b'"' {
-                Step::Wrong
-            } else {
-                Step::Put(b)
-            }
-        }
+        After::Plain => plain(b),
         After::Backslash => escape(b),
-        After::Hex => {
-            if is_hex(b) {
-                Step::Turn(After::Digit(b))
-            } else {
-                Step::Wrong
-            }
-        }
-        After::Digit(h) => {
-            if is_hex(b) {
-                Step::Put(16 * hex_value(h) + hex_value(b))
-            } else {
-                Step::Wrong
-            }
-        }
+        After::Hex if is_hex(b) => Step::Turn(After::Digit(b)),
+        After::Digit(h) if is_hex(b) => Step::Put(16 * hex_value(h) + hex_value(b)),
+        After::Hex | After::Digit(_) => Step::Wrong,
     }
 }
 

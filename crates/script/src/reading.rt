@@ -11,62 +11,41 @@ use crate::cells::{count_of, is_cell, length_of};
 use crate::escapes::text_len;
 use crate::line::{Call, DomainName, Line, Run, SchemeName};
 use crate::words::Words;
-use reader::shapes::{byte_at, same, tail};
+use reader::shapes::tail;
 
-// The first n bytes, or all of them.
-fn front(s: &[u8], n: usize) -> &[u8]
-    ensures { result.now ≡ take n s.now }
-{
-    if n >= s.len() {
-        return s;
-    }
-    &s[0..n]
-}
-
+#[tactic(auto, unfolding(crate::specs::Script::begins))]
 fn begins(line: &[u8], word: &[u8]) -> bool
     ensures { result ≡ begins_with word.now line.now }
 {
-    same(front(line, word.len()), word)
-}
-
-// Whether what follows a quote is a text and a last quote.
-fn is_quoted(s: &[u8]) -> bool
-    ensures { result ≡ is_quoted s.now }
-{
-    let last = s.len().saturating_sub(1);
-    byte_at(s, last) == b'"' && text_len(front(s, last)).is_some()
+    line.starts_with(word)
 }
 
 // The text between quotes behind a word, as it is written.
+#[tactic(auto, unfolding(crate::specs::Script::begins, crate::specs::Script::quoted))]
 fn quoted_body<'a>(line: &'a [u8], start: &[u8]) -> Option<&'a [u8]>
     ensures { body_seen result ≡ quoted start.now line.now }
 {
-    if !begins(line, start) {
+    let (last, body) = line.strip_prefix(start)?.split_last()?;
+    if *last != b'"' {
         return None;
     }
-    let behind = tail(line, start.len());
-    if !is_quoted(behind) {
-        return None;
-    }
-    Some(front(behind, behind.len().saturating_sub(1)))
+    text_len(body)?;
+    Some(body)
 }
 
+#[tactic(auto, unfolding(crate::specs::Script::begins, crate::specs::Script::expand_of))]
 fn expand_of(line: &[u8]) -> Option<usize>
     ensures { result ≡ expand_of line.now }
 {
-    if !begins(line, b"expand ") {
-        return None;
-    }
-    count_of(tail(line, 7))
+    count_of(line.strip_prefix(b"expand ")?)
 }
 
 // Whether each word is a cell of the domain, and there are at most so many.
 fn cells_fit(domain: DomainName, most: usize, cells: Words<'_>) -> bool
     ensures { result ≡ cells_fit domain most (words_of cells.entry.bytes.now) }
 {
-    let mut left = cells;
     let mut n = 0;
-    while let Some(cell) = left.next_word() {
+    for cell in cells {
         if n >= most || !is_cell(domain, cell) {
             return false;
         }
@@ -80,10 +59,7 @@ fn next_length(words: &mut Words<'_>) -> Option<usize>
     ensures value { result ≡ next_length (words_of words.old.bytes.now) }
     ensures after { words_of words.new.bytes.now ≡ words_behind (words_of words.old.bytes.now) }
 {
-    match words.next_word() {
-        Some(word) => length_of(word),
-        None => None,
-    }
+    length_of(words.next()?)
 }
 
 fn run_of<'a>(line: &'a [u8], domain: DomainName) -> Option<Run<'a>>
@@ -109,26 +85,28 @@ fn run_of<'a>(line: &'a [u8], domain: DomainName) -> Option<Run<'a>>
     })
 }
 
+#[tactic(auto, unfolding(crate::specs::Script::setting_of))]
 fn setting_of<'a>(line: &'a [u8]) -> Line<'a>
     ensures { line_seen result ≡ setting_of line.now }
 {
-    if same(line, b"scheme rotating") {
+    if line == b"scheme rotating".as_slice() {
         Line::Scheme(SchemeName::Rotating)
-    } else if same(line, b"scheme expanded") {
+    } else if line == b"scheme expanded".as_slice() {
         Line::Scheme(SchemeName::Expanded)
-    } else if same(line, b"domain words") {
+    } else if line == b"domain words".as_slice() {
         Line::Domain(DomainName::Words)
-    } else if same(line, b"domain floats") {
+    } else if line == b"domain floats".as_slice() {
         Line::Domain(DomainName::Floats)
     } else {
         Line::Wrong
     }
 }
 
+#[tactic(auto, unfolding(crate::specs::Script::is_blank))]
 fn is_blank(line: &[u8]) -> bool
     ensures { result ≡ is_blank line.now }
 {
-    line.len() == 0 || byte_at(line, 0) == b'#'
+    matches!(line, [] | [b'#', ..])
 }
 
 // What a line says in a domain. Settings stand only before the first call.
@@ -144,7 +122,7 @@ pub fn read_line<'a>(line: &'a [u8], domain: DomainName, called: bool) -> Line<'
     if let Some(body) = quoted_body(line, b"loop \"") {
         return Line::Call(Call::Loop(body));
     }
-    if same(line, b"plan") {
+    if line == b"plan".as_slice() {
         return Line::Call(Call::Plan);
     }
     if let Some(trips) = expand_of(line) {

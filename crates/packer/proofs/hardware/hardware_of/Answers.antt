@@ -13,5 +13,5 @@ returns c =
     let h = c.timing_of-6.ensures in
     record {
       timings = cc;
-      units = units_same c.units_of.result (units_of (machine_seen c.args.machine.now)) c.args.machine.now.entries.count c.units_of.ensures.value c.units_of.ensures.behind;
+      units = units_same c.units_of.result (units_of (machine_seen c.args.machine.now)) c.args.machine.now.entries.classes.len c.units_of.ensures.value c.units_of.ensures.behind;
     }

@@ -8,7 +8,7 @@ no_number : of_bits binary64 9221120237041090560 ≡ nan
 unfolding of_bits of_fields
 no_number = refl
 
-pub returns-then-same : goal.returns-then-same
-returns-then-same c =
-    let t : bytes_eq c.args.s.now (codes "nan") ≡ true = sym c.same.ensures ∙ c.if-same.true in
+pub returns-then-eq : goal.returns-then-eq
+returns-then-eq c =
+    let t : bytes_eq c.args.s.now (codes "nan") ≡ true = ap (bytes_eq c.args.s.now) (sym c.as_slice.ensures) ∙ sym c.eq.ensures ∙ c.if-eq.true in
     ap (λ (x : Float). Some x) no_number ∙ sym (cond-true _ _ _ t)
