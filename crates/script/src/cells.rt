@@ -25,11 +25,7 @@ pub(crate) fn count_of(s: &[u8]) -> Option<usize>
 pub(crate) fn length_of(s: &[u8]) -> Option<usize>
     ensures { result ≡ length_of s.now }
 {
-    if !is_digits(s, 9) {
-        return None;
-    }
-    let n = digits_value(s);
-    if n <= 1048576 { Some(n) } else { None }
+    count_of(s).filter(|n| *n <= 1048576)
 }
 
 // A cell of words.
@@ -39,8 +35,7 @@ pub fn word_of(s: &[u8]) -> Option<u32>
     if !is_digits(s, 10) {
         return None;
     }
-    let n = digits_value(s);
-    if n < 4294967296 { Some(n as u32) } else { None }
+    u32::try_from(digits_value(s)).ok()
 }
 
 fn all_hex(s: &[u8]) -> bool
