@@ -43,8 +43,8 @@ pub fn timings_of(machine: &Machine, l: &Loop) -> Few<Timing, 32>
 // The units of each class, and 0 behind the last.
 pub fn units_of(machine: &Machine) -> [usize; 8]
     ensures whole { length result ≡ 8 }
-    ensures value { take machine.now.entries.classes.len result ≡ units_of (machine_seen machine.now) }
-    ensures behind { (u : ℕ) → machine.now.entries.classes.len ≤ u → slice_index result u ≡ 0 }
+    ensures value { take (length (held machine.now.entries.classes)) result ≡ units_of (machine_seen machine.now) }
+    ensures behind { (u : ℕ) → length (held machine.now.entries.classes) ≤ u → slice_index result u ≡ 0 }
 {
     let mut units = [0usize; 8];
     let classes = machine.entries.classes.as_slice();

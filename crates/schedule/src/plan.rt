@@ -23,11 +23,12 @@ pub fn schedule_loop<S: Scheme>(
 {
     let timings = timings_of(machine, l);
     let units = units_of(machine);
+    let classes = machine.entries.classes.as_slice();
     let problem = Problem {
         source: l,
         edges,
         timings: timings.as_slice(),
-        units: &units[..machine.entries.classes.as_slice().len()],
+        units: &units[..classes.len()],
     };
     let minimum = minimum(edges, problem.timings, problem.units)?;
     problem.choose(scheme, minimum).ok_or(NoSchedule::NotTaken)

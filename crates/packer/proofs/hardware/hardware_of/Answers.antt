@@ -1,3 +1,5 @@
+use Rattle.std.proofs.Common.{length}
+use Rattle.few.specs.Held.{held}
 use Rattle.model.specs.Soundness.{units_of}
 use Rattle.texts.specs.Records.{machine_seen}
 use Rattle.packer_laws.proofs.Ran.{units_same}
@@ -13,5 +15,5 @@ returns c =
     let h = c.timing_of-6.ensures in
     record {
       timings = cc;
-      units = units_same c.units_of.result (units_of (machine_seen c.args.machine.now)) c.args.machine.now.entries.classes.len c.units_of.ensures.value c.units_of.ensures.behind;
+      units = units_same c.units_of.result (units_of (machine_seen c.args.machine.now)) (length (held c.args.machine.now.entries.classes)) c.units_of.ensures.value c.units_of.ensures.behind;
     }
