@@ -71,11 +71,12 @@ impl<S: Scheme, D: Domain> Packer<S, D> {
         }
         let hardware = hardware_of(&plan.body.machine);
         let run = Run {
-            interval: plan.scheduled.interval,
+            interval: plan.scheduled.choice.schedule.interval,
             trips,
             passes: self.desk.listing.passes(),
         };
-        match drive(
+        // A listing that stands never halts.
+        drive(
             &self.desk.listing,
             &self.scheme,
             &self.domain,
@@ -84,10 +85,7 @@ impl<S: Scheme, D: Domain> Packer<S, D> {
             memory,
             values,
             waiting,
-        ) {
-            Ok(cycles) => Ok(cycles),
-            // A listing that stands never halts.
-            Err(_) => Err(PackFault::NotStanding),
-        }
+        )
+        .map_err(|_| PackFault::NotStanding)
     }
 }

@@ -1,53 +1,13 @@
 // Lists of calls.
 ghost use Rattle.std.specs.Prelude.{◌≡◌};
-ghost use Rattle.packer_laws.specs.States.{Whole, state, text_answer, plan_answer, expand_answer, run_answer};
-ghost use Rattle.packer.specs.Requests.{outcome_seen};
+ghost use Rattle.packer_laws.specs.States.{Whole, state};
 ghost use Rattle.packer.specs.Plays.{MadeOne, PlayedOne, Plays};
 
 use crate::packer::Packer;
 use crate::request::{Buffers, Call, Entry, Outcome};
-use model::Parts;
 use registers::scheme::Scheme;
-use schedule::Scheduled;
-use standing::PackFault;
 use std::mem;
 use values::domain::Domain;
-
-fn text_outcome(answer: Result<(), PackFault>) -> Outcome
-    ensures { outcome_seen result ≡ text_answer answer }
-{
-    match answer {
-        Ok(()) => Outcome::Accepted,
-        Err(fault) => Outcome::Refused(fault),
-    }
-}
-
-fn plan_outcome(answer: Result<Scheduled, PackFault>) -> Outcome
-    ensures { outcome_seen result ≡ plan_answer answer }
-{
-    match answer {
-        Ok(scheduled) => Outcome::Planned(scheduled),
-        Err(fault) => Outcome::Refused(fault),
-    }
-}
-
-fn expand_outcome(answer: Result<Parts, PackFault>) -> Outcome
-    ensures { outcome_seen result ≡ expand_answer answer }
-{
-    match answer {
-        Ok(parts) => Outcome::Expanded(parts),
-        Err(fault) => Outcome::Refused(fault),
-    }
-}
-
-fn run_outcome(answer: Result<usize, PackFault>) -> Outcome
-    ensures { outcome_seen result ≡ run_answer answer }
-{
-    match answer {
-        Ok(cycles) => Outcome::Ran(cycles),
-        Err(fault) => Outcome::Refused(fault),
-    }
-}
 
 impl<S: Scheme, D: Domain> Packer<S, D> {
     // Makes a call, and hands it back with what came of it.
@@ -58,15 +18,22 @@ impl<S: Scheme, D: Domain> Packer<S, D> {
         match call {
             Call::Machine(text) => {
                 let answer = self.machine(text.as_slice());
-                Entry::Answered(Call::Machine(text), text_outcome(answer))
+                let outcome = answer.map_or_else(Outcome::Refused, |()| Outcome::Accepted);
+                Entry::Answered(Call::Machine(text), outcome)
             }
             Call::Loop(text) => {
                 let answer = self.read_loop(text.as_slice());
-                Entry::Answered(Call::Loop(text), text_outcome(answer))
+                let outcome = answer.map_or_else(Outcome::Refused, |()| Outcome::Accepted);
+                Entry::Answered(Call::Loop(text), outcome)
             }
-            Call::Plan => Entry::Answered(Call::Plan, plan_outcome(self.plan())),
+            Call::Plan => {
+                let outcome = self.plan().map_or_else(Outcome::Refused, Outcome::Planned);
+                Entry::Answered(Call::Plan, outcome)
+            }
             Call::Expand(trips) => {
-                Entry::Answered(Call::Expand(trips), expand_outcome(self.expand(trips)))
+                let answer = self.expand(trips);
+                let outcome = answer.map_or_else(Outcome::Refused, Outcome::Expanded);
+                Entry::Answered(Call::Expand(trips), outcome)
             }
             Call::Run(buffers) => {
                 let Buffers {
@@ -84,7 +51,8 @@ impl<S: Scheme, D: Domain> Packer<S, D> {
                     values,
                     waiting,
                 };
-                Entry::Answered(Call::Run(left), run_outcome(answer))
+                let outcome = answer.map_or_else(Outcome::Refused, Outcome::Ran);
+                Entry::Answered(Call::Run(left), outcome)
             }
         }
     }

@@ -43,13 +43,13 @@ few_trips ops w turns trips e =
 
 -- of a plan that holds there is none but for too many trips
 no_complaint : (scheme : Meaning) (p : Plan) (trips : ℕ) → PlanHolds scheme (machine_seen p.body.machine) (loop_seen p.body.source) (planned_seen p.scheduled) → trips ≤ 4096 →
-    complaint (loop_seen p.body.source) (schedule_of p.scheduled) p.scheduled.turns trips ≡ None
+    complaint (loop_seen p.body.source) (schedule_of p.scheduled) p.scheduled.choice.turns trips ≡ None
 no_complaint scheme p trips holds few =
     let w : Schedule = schedule_of p.scheduled in
     let turns = holds.turns in
     let lawful = holds.lives.lawful in
     inside 1 w.interval 256 _ Interval (omega (arith, holds.sound.is_schedule.positive)) holds.sound.short ∙
-    inside 1 p.scheduled.turns 8 _ Turns (omega (arith, lawful.some_turns)) (omega (arith, lawful.few_turns)) ∙
+    inside 1 p.scheduled.choice.turns 8 _ Turns (omega (arith, lawful.some_turns)) (omega (arith, lawful.few_turns)) ∙
     inside 0 trips 4096 _ Trips (omega arith) few ∙ inside 0 (stages w (length (loop_seen p.body.source))) 8 None Stages (omega arith) holds.sound.eight
 
 listed_one : (a b : ListedBody Planned) → Some a ≡ Some b → a ≡ b
@@ -66,7 +66,7 @@ module _ {S V : Type 0} (meaning : S → Meaning) (place : S → ℕ → ℕ →
     written said stands w =
         let is = said.1 in
         let goal = expand_accepted meaning place dom (state scheme before) w.sound trips (plan_seen p) _ (sym known)
-        (few_trips (loop_seen p.body.source) (schedule_of p.scheduled) p.scheduled.turns trips said.0) is.slots in
+        (few_trips (loop_seen p.body.source) (schedule_of p.scheduled) p.scheduled.choice.turns trips said.0) is.slots in
         let parts = is.parts in
         let same : record { stands = standing_seen (own.Listing p trips); scheme = scheme; slots = slots_held (own.Listing p trips) after.listing } ≡ state scheme after = cc in
         let told = subst (λ x. Guaranteed meaning place dom (state scheme before) (expand trips) (expanded x) (expand trips) (state scheme after)) (sym parts)

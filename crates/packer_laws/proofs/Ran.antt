@@ -126,7 +126,7 @@ module _ {S V : Type 0} (meaning : S → Meaning) (place : S → ℕ → ℕ →
       let same_units : units_in units ≡ (hardware on ops).units = fun_ext each_unit in
       let turns = known.holds.turns in
       let lawful = known.holds.lives.lawful in
-      let sizes = listing_sizes ops (hardware on ops) w (meaning scheme).name p.scheduled.turns trips (on_machine on ops known.machine_sound known.loop_sound).formed
+      let sizes = listing_sizes ops (hardware on ops) w (meaning scheme).name p.scheduled.choice.turns trips (on_machine on ops known.machine_sound known.loop_sound).formed
       known.holds.sound.is_schedule.positive known.holds.sound.few_stages (omega (arith, lawful.some_turns)) (omega (arith, lawful.few_turns)) in
       let same_passes : n ≡ passes w (length ops) trips = counted ∙ ap passes_run is.parts ∙ sizes.run in
       let rows : rows_said desk.listing ≡ code_of_listing (listing_of (meaning scheme) ops (planned_seen p.scheduled) trips) = fun_ext (λ q. fun_ext (λ x. is.says q x)) in

@@ -23,8 +23,8 @@ planned_seen p = record {
   evidence = evidence p.minimum.witness;
   schedule = schedule_of p;
   steps = p.steps;
-  stages = p.stages;
-  turns = p.turns;
+  stages = p.choice.stages;
+  turns = p.choice.turns;
 }
 
 abbrev pub body_seen : Body → calls.Body

@@ -40,7 +40,7 @@ module _ {S : Type 0} (meaning : S → Meaning) (place : S → ℕ → ℕ → �
 -- What the writing of a plan's listing, in these names, leaves.
 abbrev pub WrittenBy : Desk → Desk → Plan → (ℕ → ℕ → ℕ → ℕ) → ℕ → Result (Unit {0}) Unwritable → Type 0
 WrittenBy before after p name trips r =
-    Answered before.listing after.listing (loop_seen p.body.source) (schedule_of p.scheduled) name p.scheduled.turns trips r
+    Answered before.listing after.listing (loop_seen p.body.source) (schedule_of p.scheduled) name p.scheduled.choice.turns trips r
 
 -- A listing for so many trips: it stands with the plan that stood; or no plan stands; or it cannot be written.
 abbrev pub Writes : Desk → Desk → (ℕ → ℕ → ℕ → ℕ) → ℕ → Result Parts PackFault → Type 0
