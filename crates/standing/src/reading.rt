@@ -41,7 +41,9 @@ impl Desk {
     pub fn read_loop(&mut self, text: &[u8]) -> Result<(), PackFault>
         ensures { ReadsLoop self.old self.new text.now result }
     {
-        let machine = self.standing.machine().ok_or(PackFault::NotStanding)?;
+        let Some(machine) = self.standing.machine() else {
+            return Err(PackFault::NotStanding);
+        };
         let source = Loop::read(text)?;
         self.edges.build(&machine, &source);
         self.standing = Standing::Loop(Body { machine, source });

@@ -14,27 +14,41 @@ impl Desk {
     pub fn schedule<S: Scheme>(&mut self, scheme: &mut S) -> Result<Scheduled, PackFault>
         ensures { Schedules S.meaning S.place self.old self.new scheme.old scheme.new result }
     {
-        let body = self.standing.body().ok_or(PackFault::NotStanding)?;
+        let Some(body) = self.standing.body() else {
+            return Err(PackFault::NotStanding);
+        };
         // The edges of a loop that stands are within the limits, and none of its circuits stands.
-        let scheduled = schedule_loop(&body.machine, &body.source, self.edges.as_slice(), scheme)
-            .map_err(|_| PackFault::NoSchedule)?;
-        self.standing = Standing::Plan(Plan { body, scheduled });
-        Ok(scheduled)
+        match schedule_loop(&body.machine, &body.source, self.edges.as_slice(), scheme) {
+            Ok(scheduled) => {
+                self.standing = Standing::Plan(Plan { body, scheduled });
+                Ok(scheduled)
+            }
+            Err(_) => Err(PackFault::NoSchedule),
+        }
     }
 
     // Writes the listing of the plan that stands for so many trips, in the names of the register scheme.
     pub fn write<S: Scheme>(&mut self, scheme: &S, trips: usize) -> Result<Parts, PackFault>
         ensures { Writes self.old self.new (S.meaning scheme.now).name trips result }
     {
-        let plan = self.standing.plan().ok_or(PackFault::NotStanding)?;
+        let Some(plan) = self.standing.plan() else {
+            return Err(PackFault::NotStanding);
+        };
         let Choice {
-            schedule, turns, ..
+            schedule,
+            turns,
+            ..
         } = plan.scheduled.choice;
         // Of a plan that stands only the trips can be too many.
-        self.listing
+        match self
+            .listing
             .write(&plan.body.source, &schedule, scheme, turns, trips)
-            .map_err(|_| PackFault::ManyTrips)?;
-        self.standing = Standing::Listing(plan, trips);
-        Ok(self.listing.parts())
+        {
+            Ok(()) => {
+                self.standing = Standing::Listing(plan, trips);
+                Ok(self.listing.parts())
+            }
+            Err(_) => Err(PackFault::ManyTrips),
+        }
     }
 }
