@@ -2,6 +2,7 @@
 use Rattle.std.proofs.Common.{◌≡◌, ℕ, ◌+◌, ◌<◌, ◌≤◌, ◌-◌, ◌==◌, ◌&&◌, leb, ltb, get_or, true, false, cond, List, [], ◌∷◌, ◌++◌, map, length, vec_items, vec_len, vec_capacity, Vec, sym, refl, ap, ◌∙◌, subst, ap₂, add_assoc, add-one, arith}
 use Rattle.std.specs.declared.alloc.Global.{Global}
 use Rattle.std.proofs.lemmas.List.{append-nil, append_assoc, length-append, length_push, length-map, map_push}
+use Rattle.std.proofs.lemmas.Grind.{flat_map-append}
 use Rattle.model.specs.Edges.{each}
 use Rattle.model.specs.Issues.{issues_in}
 use Rattle.model.specs.Listing as listings
@@ -17,7 +18,7 @@ use Rattle.few.specs.Held.{held}
 use Rattle.dependence.specs.Operations.{operation_seen}
 use Rattle.model.specs.Schemes.{Meaning}
 use Rattle.listing.specs.Kept.{all_slots, cuts, Room, Appended}
-use Rattle.listing_laws.proofs.Each.{each_up_to, joined_append, joined_each}
+use Rattle.listing_laws.proofs.Each.{each_up_to, joined_each}
 use Rattle.listing.proofs.Bodies.{issues_at, slot_at}
 
 -- Slots put behind slots.
@@ -40,11 +41,11 @@ grown_one v u t s x xs g items len cap is = record {
   cap = cap ∙ g.cap;
 }
 
-module _ (b : Body) (m : Meaning) (place : Place) (r : ℕ) where
+module _ {S : Type 0} (b : Body S) (m : S → Meaning) (place : Place) (r : ℕ) where
   -- operation j in row r of the pass, if it issues there
   abbrev pub issuing : ℕ → List listings.Slot
   issuing j =
-      cond (issues_in (schedule_of b) b.trips j place.pass r) (slot_in_pass (loop_of b) (schedule_of b) m.name b.turns place.part place.written place.pass j ∷ []) []
+      cond (issues_in (schedule_of b) b.trips j place.pass r) (slot_in_pass (loop_of b) (schedule_of b) (m b.scheme.now).name b.turns place.part place.written place.pass j ∷ []) []
 
   row_is : slots_of_row b m place r ≡ each issuing (length (held b.placed))
   unfolding row_of
@@ -81,7 +82,7 @@ cuts_push b (x ∷ rows) row =
     ap (λ n. b ∷ (cuts (b + length x) rows ++ n ∷ [])) (add_assoc b (length x) (length (all_slots (rows ++ row ∷ []))) ∙ ap (λ n. b + n) (sym (length-append x (all_slots (rows ++ row ∷ [])))))
 
 all_push : (rows : List (List listings.Slot)) (row : List listings.Slot) → all_slots (rows ++ row ∷ []) ≡ all_slots rows ++ row
-all_push rows row = joined_append rows (row ∷ []) ∙ ap (λ xs. all_slots rows ++ xs) (append-nil row)
+all_push rows row = flat_map-append (λ row. row) rows (row ∷ []) ∙ ap (λ xs. all_slots rows ++ xs) (append-nil row)
 
 -- A row is put behind the others, and then its end.
 pub row_pushed : (a z : Rows) (row : List listings.Slot) → Grown a.slots z.slots row → vec_items z.starts ≡ vec_items a.starts ++ vec_len z.slots ∷ [] →
@@ -103,7 +104,7 @@ append_none a = record { slots = omega arith; starts = omega arith; keeps = λ r
 
 pub append_then : (a b c : Rows) (xs ys : List (List listings.Slot)) → Appended a b xs → Appended b c ys → Appended a c (xs ++ ys)
 append_then a b c xs ys f g = record {
-  slots = omega (arith, g.slots, f.slots, ap length (joined_append xs ys), length-append (all_slots xs) (all_slots ys));
+  slots = omega (arith, g.slots, f.slots, ap length (flat_map-append (λ row. row) xs ys), length-append (all_slots xs) (all_slots ys));
   starts = omega (arith, g.starts, f.starts, length-append xs ys);
   keeps = λ rows k. rw (← append_assoc rows xs ys) (g.keeps (rows ++ xs) (f.keeps rows k));
 }
@@ -120,12 +121,12 @@ room_next f a b i n h room x = record {
 
 pub room_front : (a : Rows) (xs ys : List (List listings.Slot)) → Room a (xs ++ ys) → Room a xs
 room_front a xs ys room = record {
-  slots = omega (arith, room.slots, ap length (joined_append xs ys), length-append (all_slots xs) (all_slots ys));
+  slots = omega (arith, room.slots, ap length (flat_map-append (λ row. row) xs ys), length-append (all_slots xs) (all_slots ys));
   starts = omega (arith, room.starts, length-append xs ys);
 }
 
 pub room_back : (a b : Rows) (xs ys : List (List listings.Slot)) → Room a (xs ++ ys) → Appended a b xs → Room b ys
 room_back a b xs ys room x = record {
-  slots = omega (arith, room.slots, x.slots, ap length (joined_append xs ys), length-append (all_slots xs) (all_slots ys));
+  slots = omega (arith, room.slots, x.slots, ap length (flat_map-append (λ row. row) xs ys), length-append (all_slots xs) (all_slots ys));
   starts = omega (arith, room.starts, x.starts, length-append xs ys);
 }

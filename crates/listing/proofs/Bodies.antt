@@ -103,7 +103,7 @@ a_machine = record {
   timings = one_cycle ∷ one_cycle ∷ one_cycle ∷ one_cycle ∷ one_cycle ∷ one_cycle ∷ [];
 }
 
-pub formed : (b : Body) → WellFormed (loop_of b) (hardware a_machine (loop_of b))
+pub formed : {S : Type 0} (b : Body S) → WellFormed (loop_of b) (hardware a_machine (loop_of b))
 formed b = well_formed a_machine (loop_of b) refl b.sound
 
 known_operand : (ops : Loop) (q : ℕ) (a : OwnOperand) → Named ops q (operand_seen a) → KnownOperand (length ops) a
@@ -116,7 +116,7 @@ known_operands ops q (Store a cell) n = known_operand ops q a n
 known_operands ops q (Binary f a b) n = (known_operand ops q a n.0, known_operand ops q b n.1)
 known_operands ops q (Move a) n = known_operand ops q a n
 
-module _ (b : Body) (ps : List Placed) (same : ps ≡ held b.placed) (j : ℕ) (p : Placed) (h : j < length ps) (is : p ≡ get_or ps j p) where
+module _ {S : Type 0} (b : Body S) (ps : List Placed) (same : ps ≡ held b.placed) (j : ℕ) (p : Placed) (h : j < length ps) (is : p ≡ get_or ps j p) where
   at : PlacedAt (loop_of b) (schedule_of b) j p
   at = b.standing j p (rw same at h) (rw same at is)
 
@@ -132,6 +132,6 @@ module _ (b : Body) (ps : List Placed) (same : ps ≡ held b.placed) (j : ℕ) (
   unfolding issues_in
   issues_at q r = rw (at.row, at.stage)
 
-  pub slot_at : (m : Meaning) (place : Place) → slot_of b m place p ≡ slot_in_pass (loop_of b) (schedule_of b) m.name b.turns place.part place.written place.pass j
+  pub slot_at : (m : S → Meaning) (place : Place) → slot_of b m place p ≡ slot_in_pass (loop_of b) (schedule_of b) (m b.scheme.now).name b.turns place.part place.written place.pass j
   unfolding slot_in_pass
   slot_at m place = rw (at.row, at.stage, at.variable, at.operation)

@@ -31,13 +31,13 @@ use Rattle.listing.proofs.Bodies.{formed}
 use Rattle.listing.proofs.Cuts.{says_same}
 
 -- At least one stage, and distances up to seven.
-pub deep : (b : Body) (d : ℕ) → d ≡ stages (schedule_of b) (length (loop_of b)) → 1 ≤ d
+pub deep : {S : Type 0} (b : Body S) (d : ℕ) → d ≡ stages (schedule_of b) (length (loop_of b)) → 1 ≤ d
 deep b d e = omega (arith, e, stage_below (schedule_of b) (length (loop_of b)) 0 (formed b).some)
 
-pub near : (b : Body) (f : ℕ) → f ≡ farthest (loop_of b) (length (loop_of b)) → f ≤ 7
+pub near : {S : Type 0} (b : Body S) (f : ℕ) → f ≡ farthest (loop_of b) (length (loop_of b)) → f ≤ 7
 near b f e = omega (arith, farthest_near (loop_of b) (length (loop_of b)) (formed b).named)
 
-pub record Ready (b : Body) (m : Meaning) (ps : Parts) : Type 0 where
+pub record Ready {S : Type 0} (b : Body S) (m : S → Meaning) (ps : Parts) : Type 0 where
   pub parts : ps ≡ parts_of (loop_of b) (schedule_of b) b.turns b.trips
   pub few : passes_run ps + ps.kernel ≤ 65535
   pub slots : length (all_slots (all_rows b m)) ≤ 1152
@@ -54,7 +54,7 @@ pub record Owed (ps : Parts) (rows : Rows) (interval : ℕ) : Type 0 where
 abbrev split_by : ℕ → ℕ → ℕ → ℕ → Parts
 split_by head stages turns trips = cond (leb trips head) (all_front (cond (eqb trips 0) 0 (trips + stages - 1))) (with_kernel head stages turns (trips - head))
 
-split_is : (b : Body) (d f : ℕ) → d ≡ stages (schedule_of b) (length (loop_of b)) → f ≡ farthest (loop_of b) (length (loop_of b)) →
+split_is : {S : Type 0} (b : Body S) (d f : ℕ) → d ≡ stages (schedule_of b) (length (loop_of b)) → f ≡ farthest (loop_of b) (length (loop_of b)) →
     split_by (d - 1 + f) d b.turns b.trips ≡ parts_of (loop_of b) (schedule_of b) b.turns b.trips
 unfolding parts_of head_of
 split_is b d f e h =
@@ -63,7 +63,7 @@ split_is b d f e h =
 few_passes : (w : Schedule) (n trips : ℕ) → trips ≤ 4096 → stages w n ≤ 8 → passes w n trips ≤ 4104
 few_passes w n trips h deep = elim (cases_eq trips 0) [ inl e ↦ rw (eq-eqb trips 0 e) (omega arith) | inr z ↦ rw (ne_eqb trips 0 z) (omega arith) ]
 
-pub ready : (b : Body) (m : Meaning) (s : OwnSchedule) (d f turns trips : ℕ) (ps : Parts) → b.schedule ≡ s → 1 ≤ s.interval → s.interval ≤ 256 →
+pub ready : {S : Type 0} (b : Body S) (m : S → Meaning) (s : OwnSchedule) (d f turns trips : ℕ) (ps : Parts) → b.schedule ≡ s → 1 ≤ s.interval → s.interval ≤ 256 →
     b.turns ≡ turns → turns ≤ 8 → b.trips ≡ trips → trips ≤ 4096 →
     d ≡ stages (schedule_of b) (length (loop_of b)) → d ≤ 8 → f ≡ farthest (loop_of b) (length (loop_of b)) → ps ≡ split_by (d - 1 + f) d turns trips → Ready b m ps
 ready b m s d f turns trips ps s_is low high turns_is few_turns trips_is few_trips d_is shallow f_is split =
@@ -73,7 +73,7 @@ ready b m s d f turns trips ps s_is low high turns_is few_turns trips_is few_tri
     split ∙ ap₂ (λ x y. split_by (d - 1 + f) d x y) (sym turns_is) (sym trips_is) ∙ split_is b d f d_is f_is in
     let all_stages : stages (schedule_of b) (length (loop_of b)) ≤ 8 = omega (arith, d_is) in
     let few_stages = (stages_by_times (loop_of b) (schedule_of b) some).0 all_stages in
-    let z = listing_sizes (loop_of b) _ (schedule_of b) m.name b.turns b.trips (formed b) some few_stages b.turning (omega arith) in
+    let z = listing_sizes (loop_of b) _ (schedule_of b) (m b.scheme.now).name b.turns b.trips (formed b) some few_stages b.turning (omega arith) in
     let run = ap passes_run is ∙ z.run in
     let written : passes_written ps ≤ 36 = rw is z.few_passes in
     let long = few_passes (schedule_of b) (length (loop_of b)) b.trips (omega arith) all_stages in
@@ -88,13 +88,13 @@ ready b m s d f turns trips ps s_is low high turns_is few_turns trips_is few_tri
     }
 
 -- The listing that is kept is the definition's.
-pub is_listing : (l : Listing) (b : Body) (m : Meaning) (ops : Loop) (s : OwnSchedule) (turns trips : ℕ) →
-    loop_of b ≡ ops → b.schedule ≡ s → b.turns ≡ turns → b.trips ≡ trips →
+pub is_listing : {S : Type 0} (l : Listing) (b : Body S) (m : S → Meaning) (ops : Loop) (s : OwnSchedule) (x : S) (turns trips : ℕ) →
+    loop_of b ≡ ops → b.schedule ≡ s → b.scheme.now ≡ x → b.turns ≡ turns → b.trips ≡ trips →
     Ready b m l.parts → Keeps l.rows (all_rows b m) → l.trips ≡ trips → l.interval ≡ s.interval →
-    Is l (listing ops (schedule_seen s) m.name turns trips)
-is_listing l b m ops s turns trips ops_is s_is turns_is trips_is r keeps lt li =
+    Is l (listing ops (schedule_seen s) (m x).name turns trips)
+is_listing l b m ops s x turns trips ops_is s_is x_is turns_is trips_is r keeps lt li =
     let k_is = ap (λ x. x.interval) s_is in
-    let d : listings.Listing = listing (loop_of b) (schedule_of b) m.name b.turns b.trips in
+    let d : listings.Listing = listing (loop_of b) (schedule_of b) (m b.scheme.now).name b.turns b.trips in
     let own : Is l d = record {
       slots = keeps.slots;
       parts = r.parts;
@@ -102,9 +102,10 @@ is_listing l b m ops s turns trips ops_is s_is turns_is trips_is r keeps lt li =
       interval = li ∙ sym k_is;
       says = says_same l d keeps r.parts (li ∙ sym k_is) (r.counted ∙ ap (λ x. passes_written x * b.schedule.interval) r.parts);
     } in
-    let same : d ≡ listing ops (schedule_seen s) m.name turns trips =
-    ap₂ (λ x y. listing x (schedule_seen y) m.name b.turns b.trips) ops_is s_is ∙
-    ap₂ (λ x y. listing ops (schedule_seen s) m.name x y) turns_is trips_is in
+    let same : d ≡ listing ops (schedule_seen s) (m x).name turns trips =
+    ap₂ (λ z y. listing z (schedule_seen y) (m b.scheme.now).name b.turns b.trips) ops_is s_is ∙
+    ap (λ z. listing ops (schedule_seen s) (m z).name b.turns b.trips) x_is ∙
+    ap₂ (λ z y. listing ops (schedule_seen s) (m x).name z y) turns_is trips_is in
     subst (Is l) same own
 
 -- And so it means what issues.
@@ -117,7 +118,7 @@ means_issues l ops w scheme turns trips lawful positive shallow is turning varia
     ap (map (slot_in scheme.resolve timings (c / w.interval))) (own.says (c / w.interval) (c % w.interval)) ∙
     listing_means ops hw w scheme trips timings fine positive ((stages_by_times ops w positive).0 shallow) lawful variables by_code c h
 
-pub stages_same : (b : Body) (d : ℕ) (ops : Loop) (s : OwnSchedule) → loop_of b ≡ ops → b.schedule ≡ s → d ≡ stages (schedule_of b) (length (loop_of b)) →
+pub stages_same : {S : Type 0} (b : Body S) (d : ℕ) (ops : Loop) (s : OwnSchedule) → loop_of b ≡ ops → b.schedule ≡ s → d ≡ stages (schedule_of b) (length (loop_of b)) →
     stages (schedule_seen s) (length ops) ≡ d
 stages_same b d ops s ops_is s_is d_is = sym (d_is ∙ ap₂ (λ x y. stages (schedule_seen x) (length y)) s_is ops_is)
 
@@ -133,7 +134,7 @@ too_deep ops w turns trips a b c d e f =
     rw (le-leb 1 w.interval a, le-leb w.interval 256 b, le-leb 1 turns c, le-leb turns 8 d, le-leb 0 trips (omega arith), le-leb trips 4096 e, le-leb 0 (stages w (length ops)) (omega arith), lt-leb (stages w (length ops)) 8 f)
 
 -- What a listing owes.
-pub owed : (b : Body) (m : Meaning) (s : OwnSchedule) (ps : Parts) (rows : Rows) → b.schedule ≡ s → s.interval ≤ 256 → Ready b m ps →
+pub owed : {S : Type 0} (b : Body S) (m : S → Meaning) (s : OwnSchedule) (ps : Parts) (rows : Rows) → b.schedule ≡ s → s.interval ≤ 256 → Ready b m ps →
     vec_len rows.starts ≡ length (all_rows b m) + 1 → Owed ps rows s.interval
 owed b m s ps rows s_is narrow r starts = record {
   counted = starts ∙ ap (λ n. n + 1) (r.counted ∙ ap (λ x. passes_written ps * x.interval) s_is);

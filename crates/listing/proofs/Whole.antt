@@ -13,7 +13,7 @@ use Rattle.listing.specs.Rows.{rows_of_passes, all_rows}
 use Rattle.listing.specs.Kept.{all_slots, Keeps, Room, Appended}
 use Rattle.listing.proofs.Appending.{append_then, room_front, room_back}
 
-module _ (b : Body) (m : Meaning) (ps : Parts) where
+module _ {S : Type 0} (b : Body S) (m : S → Meaning) (ps : Parts) where
   abbrev pub part_rows : Part → List (List listings.Slot)
   part_rows part = rows_of_passes b m part (first_pass ps part) (passes_in ps part)
 

@@ -16,10 +16,10 @@ use Rattle.listing.specs.Placed.{operations_placed}
 abbrev pub slot_seen : Slot → listings.Slot
 slot_seen s = slot_with s.part s.pass s.row s.issue.stage s.issue.result (code_operation_seen s.issue.operation)
 
-abbrev pub loop_of : Body → loops.Loop
+abbrev pub loop_of : {S : Type 0} → Body S → loops.Loop
 loop_of b = operations_placed (held b.placed)
 
-abbrev pub schedule_of : Body → Schedule
+abbrev pub schedule_of : {S : Type 0} → Body S → Schedule
 schedule_of b = schedule_seen b.schedule
 
 -- An operand names one of the first n operations.

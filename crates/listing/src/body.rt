@@ -1,4 +1,4 @@
-// A loop in its schedule, prepared for writing.
+// A loop in its schedule, prepared for writing in the names of a register scheme.
 ghost use Rattle.std.specs.Prelude.{◌≡◌, ◌≤◌, true};
 ghost use Rattle.few.specs.Held.{held};
 ghost use Rattle.model.specs.Soundness.{sound_loop};
@@ -9,10 +9,11 @@ use crate::placed::Placed;
 use few::Few;
 use timing::Schedule;
 
-#[derive(Clone, Copy)]
-pub struct Body {
+#[derive(Drop)]
+pub struct Body<'a, S> {
     pub(crate) placed: Few<Placed, 32>,
     pub(crate) schedule: Schedule,
+    pub(crate) scheme: &'a S,
     pub(crate) turns: usize,
     pub(crate) trips: usize,
     ghost turning: { 1 ≤ turns },

@@ -1,6 +1,6 @@
 // How a listing is made, written and read.
 ghost use Rattle.std.specs.Prelude.{◌≡◌, ℕ, List, [], IfOk};
-ghost use Rattle.model.specs.Listing.{all_front};
+ghost use Rattle.model.specs.Listing.{all_front as all_front_passes};
 ghost use Rattle.dependence.specs.Loops.{loop_seen};
 ghost use Rattle.timing.specs.Seen.{schedule_seen};
 ghost use Rattle.listing.specs.Forms.{rows_said};
@@ -8,11 +8,10 @@ ghost use Rattle.listing.specs.Written.{Answered, Meant};
 
 use crate::body::Body;
 use crate::listing::Listing;
-use crate::parts::split;
+use crate::parts::{all_front, split};
 use crate::refusal::Unwritable;
 use crate::rows::Rows;
 use dependence::loops::Loop;
-use model::Parts;
 use registers::scheme::Scheme;
 use std::alloc::{AllocError, Global};
 use timing::Schedule;
@@ -26,7 +25,7 @@ impl Listing {
     // An empty listing with all the room that a listing may need.
     pub fn new(heap: Global) -> Result<Listing, AllocError>
         ensures slots { IfOk result (λ l. l.rows.slots.items ≡ []) }
-        ensures parts { IfOk result (λ l. l.parts ≡ all_front 0) }
+        ensures parts { IfOk result (λ l. l.parts ≡ all_front_passes 0) }
         ensures says { IfOk result (λ l. (p q : ℕ) → rows_said l p q ≡ []) }
     {
         let slots = Vec::with_capacity(heap, SLOTS)?;
@@ -34,12 +33,7 @@ impl Listing {
         starts.push_reserved(0);
         Ok(Listing {
             rows: Rows { slots, starts },
-            parts: Parts {
-                front: 0,
-                kernel: 0,
-                repeats: 0,
-                rest: 0,
-            },
+            parts: all_front(0),
             trips: 0,
             interval: 1,
         })
@@ -67,13 +61,13 @@ impl Listing {
         if trips > 4096 {
             return Err(Unwritable::Trips);
         }
-        let body = Body::new(source, schedule, turns, trips);
+        let body = Body::new(source, schedule, scheme, turns, trips);
         let stages = body.depth();
         if stages > 8 {
             return Err(Unwritable::Stages);
         }
         let parts = split(stages - 1 + body.farthest(), stages, turns, trips);
-        self.rows.write(&body, scheme, parts);
+        self.rows.write(&body, parts);
         self.parts = parts;
         self.trips = trips;
         self.interval = schedule.interval;

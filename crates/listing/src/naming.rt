@@ -1,12 +1,11 @@
 // What issues in a pass, in names of registers.
 ghost use Rattle.std.specs.Prelude.{◌≡◌, ◌≤◌, ◌==◌, ◌&&◌, ◌-◌, length, nat_le, nat_lt};
 ghost use Rattle.model.specs.Loop.{on_operands};
-ghost use Rattle.model.specs.Listing.{operand_in};
 ghost use Rattle.operations.specs.Seen.{EachOwn};
 ghost use Rattle.dependence.specs.Operations.{operand_seen, operation_seen};
 ghost use Rattle.code.specs.Seen.{source_seen, code_operation_seen};
-ghost use Rattle.listing.specs.Views.{slot_seen, loop_of, schedule_of, KnownOperand};
-ghost use Rattle.listing.specs.Rows.{result_of, slot_of};
+ghost use Rattle.listing.specs.Views.{slot_seen, loop_of, KnownOperand};
+ghost use Rattle.listing.specs.Rows.{operand_of, result_of, slot_of};
 
 use crate::body::Body;
 use crate::place::Place;
@@ -25,70 +24,68 @@ impl Placed {
     }
 }
 
-impl Body {
+impl<S: Scheme> Body<'_, S> {
     // Where an operand of what stands in a stage comes from; a value from before iteration 0 is the literal 0.
-    fn source<S: Scheme>(&self, scheme: &S, pass: usize, stage: usize, operand: Operand) -> Source
+    fn source(&self, pass: usize, stage: usize, operand: Operand) -> Source
         requires begun { stage ≤ pass }
         requires known { KnownOperand (length (loop_of self.now)) operand }
-        ensures { source_seen result ≡ operand_in (loop_of self.now) (schedule_of self.now) (S.meaning scheme.now).name self.now.turns pass stage (operand_seen operand) }
+        ensures { source_seen result ≡ operand_of self.now S.meaning pass stage (operand_seen operand) }
     {
         match operand {
             Operand::Literal(z) => Source::Literal(z),
             Operand::Variable { distance, .. } if distance > pass - stage => Source::Literal(0),
-            Operand::Variable { definer, distance } => Source::Register(scheme.name(
-                self.placed()[definer].variable,
-                pass % self.turns,
-                stage + distance,
-            )),
+            Operand::Variable { definer, distance } => Source::Register(
+                self.scheme.name(
+                    self.placed()[definer].variable,
+                    pass % self.turns,
+                    stage + distance,
+                ),
+            ),
         }
     }
 
     // An operation over names.
-    fn in_names<S: Scheme>(
-        &self,
-        scheme: &S,
-        pass: usize,
-        stage: usize,
-        operation: Operation,
-    ) -> Issued
+    fn in_names(&self, pass: usize, stage: usize, operation: Operation) -> Issued
         requires begun { stage ≤ pass }
         requires known { EachOwn (KnownOperand (length (loop_of self.now))) operation }
-        ensures { code_operation_seen result ≡ on_operands (operand_in (loop_of self.now) (schedule_of self.now) (S.meaning scheme.now).name self.now.turns pass stage) (operation_seen operation) }
+        ensures { code_operation_seen result ≡ on_operands (operand_of self.now S.meaning pass stage) (operation_seen operation) }
     {
         match operation {
             Operation::Load(cell) => Issued::Load(cell),
-            Operation::Store(a, cell) => Issued::Store(self.source(scheme, pass, stage, a), cell),
+            Operation::Store(a, cell) => Issued::Store(self.source(pass, stage, a), cell),
             Operation::Binary(operator, a, b) => Issued::Binary(
                 operator,
-                self.source(scheme, pass, stage, a),
-                self.source(scheme, pass, stage, b),
+                self.source(pass, stage, a),
+                self.source(pass, stage, b),
             ),
-            Operation::Move(a) => Issued::Move(self.source(scheme, pass, stage, a)),
+            Operation::Move(a) => Issued::Move(self.source(pass, stage, a)),
         }
     }
 
     // The name of what an operation makes; a store makes nothing.
-    fn result<S: Scheme>(&self, scheme: &S, pass: usize, placed: &Placed) -> Option<usize>
-        ensures { result ≡ result_of (S.meaning scheme.now) self.now.turns pass placed.now }
+    fn result(&self, pass: usize, placed: &Placed) -> Option<usize>
+        ensures { result ≡ result_of self.now S.meaning pass placed.now }
     {
-        let name = scheme.name(placed.variable, pass % self.turns, placed.stage);
+        let name = self
+            .scheme
+            .name(placed.variable, pass % self.turns, placed.stage);
         placed.operation.makes().then_some(name)
     }
 
     // An operation as it is written.
-    pub(crate) fn slot<S: Scheme>(&self, scheme: &S, place: Place, placed: &Placed) -> Slot
+    pub(crate) fn slot(&self, place: Place, placed: &Placed) -> Slot
         requires begun { placed.now.stage ≤ place.pass }
         requires known { EachOwn (KnownOperand (length (loop_of self.now))) placed.now.operation }
-        ensures { slot_seen result ≡ slot_of self.now (S.meaning scheme.now) place placed.now }
+        ensures { slot_seen result ≡ slot_of self.now S.meaning place placed.now }
     {
         Slot {
             part: place.part,
             pass: place.written,
             row: placed.row,
             issue: Issue {
-                operation: self.in_names(scheme, place.pass, placed.stage, placed.operation),
+                operation: self.in_names(place.pass, placed.stage, placed.operation),
                 stage: placed.stage,
-                result: self.result(scheme, place.pass, placed),
+                result: self.result(place.pass, placed),
             },
         }
     }

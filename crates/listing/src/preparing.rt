@@ -15,6 +15,7 @@ use crate::placed::Placed;
 use dependence::loops::Loop;
 use dependence::operation::{Operand, Operation};
 use few::Few;
+use registers::scheme::Scheme;
 use timing::{Schedule, stage_and_row};
 
 // Each operation of a loop with its place in a schedule.
@@ -65,17 +66,25 @@ fn greatest_distance(operation: Operation) -> usize
     }
 }
 
-impl Body {
-    pub(crate) fn new(source: &Loop, schedule: &Schedule, turns: usize, trips: usize) -> Body
+impl<'a, S: Scheme> Body<'a, S> {
+    pub(crate) fn new(
+        source: &Loop,
+        schedule: &Schedule,
+        scheme: &'a S,
+        turns: usize,
+        trips: usize,
+    ) -> Body<'a, S>
         requires { 1 ≤ turns }
         ensures source { loop_of result ≡ loop_seen source.now }
         ensures schedule { result.schedule ≡ schedule.now }
+        ensures scheme { result.scheme.now ≡ scheme.now }
         ensures turns { result.turns ≡ turns }
         ensures trips { result.trips ≡ trips }
     {
         Body {
             placed: place_all(source, schedule),
             schedule: *schedule,
+            scheme,
             turns,
             trips,
         }

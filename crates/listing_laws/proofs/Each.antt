@@ -1,7 +1,8 @@
 -- Lists made of a list for each number.
-use Rattle.std.proofs.Common.{◌≡◌, ℕ, zero, suc, ◌+◌, ◌-◌, ◌*◌, ◌<◌, ◌≤◌, List, [], ◌∷◌, ◌++◌, map, length, get_or, sym, refl, ap, ◌∙◌, ap₂, inl, inr, mul-le-mul_right, add-mul, one-mul, zero-mul, arith}
+use Rattle.std.proofs.Common.{◌≡◌, ℕ, zero, suc, ◌+◌, ◌-◌, ◌*◌, ◌<◌, ◌≤◌, List, [], ◌∷◌, ◌++◌, map, length, get_or, sym, refl, ap, ◌∙◌, ap₂, inl, inr, mul-le-mul_right, add-mul, one-mul, zero-mul, add-one, arith}
 use Rattle.std.specs.List.{flat_map}
-use Rattle.std.proofs.lemmas.List.{map-append, length-append, length_push, get_or_push, get_or_append_left, get_or-append_right, append_assoc}
+use Rattle.std.proofs.lemmas.List.{map-append, length-append, length_push, get_or_push, get_or_append_left, get_or-append_right}
+use Rattle.std.proofs.lemmas.Grind.{flat_map-append}
 use Rattle.std.proofs.lemmas.Bool.{cases_eq}
 use Rattle.model.specs.Loop.{total}
 use Rattle.model.specs.Edges.{each}
@@ -28,10 +29,7 @@ each_up_to f m n h = omega (arith, each_front f (suc m) n h, length-append (each
 -- One for each number.
 pub length_ones : {A : Type 0} (f : ℕ → A) (k : ℕ) → length (each (λ r. f r ∷ []) k) ≡ k
 length_ones f zero = refl
-length_ones f (suc k) = length_push (each (λ r. f r ∷ []) k) (f k) ∙ ap (λ n. n + 1) (length_ones f k) ∙ plus_one k
-  where
-    plus_one : (k : ℕ) → k + 1 ≡ suc k
-    plus_one k = omega arith
+length_ones f (suc k) = length_push (each (λ r. f r ∷ []) k) (f k) ∙ ap (λ n. n + 1) (length_ones f k) ∙ add-one k
 
 pub at_ones : {A : Type 0} (f : ℕ → A) (k r : ℕ) (d : A) → r < k → get_or (each (λ q. f q ∷ []) k) r d ≡ f r
 at_ones f zero r d h = absurd (omega arith)
@@ -58,13 +56,9 @@ at_table f k (suc n) q r d h lq lr = elim (cases_eq q n) [
       at_table f k n q r d h (omega arith) lr
 ]
 
-pub joined_append : {A : Type 0} (xs ys : List (List A)) → flat_map (λ row. row) (xs ++ ys) ≡ flat_map (λ row. row) xs ++ flat_map (λ row. row) ys
-joined_append [] ys = refl
-joined_append (x ∷ xs) ys = ap (λ rest. x ++ rest) (joined_append xs ys) ∙ sym (append_assoc x (flat_map (λ row. row) xs) (flat_map (λ row. row) ys))
-
 pub joined_each : {A : Type 0} (f : ℕ → List (List A)) (n : ℕ) → flat_map (λ row. row) (each f n) ≡ each (λ q. flat_map (λ row. row) (f q)) n
 joined_each f zero = refl
-joined_each f (suc n) = joined_append (each f n) (f n) ∙ ap (λ xs. xs ++ flat_map (λ row. row) (f n)) (joined_each f n)
+joined_each f (suc n) = flat_map-append (λ row. row) (each f n) (f n) ∙ ap (λ xs. xs ++ flat_map (λ row. row) (f n)) (joined_each f n)
 
 -- Where each has at most m.
 pub each_short : {A : Type 0} (f : ℕ → List A) (m n : ℕ) → ((q : ℕ) → length (f q) ≤ m) → length (each f n) ≤ n * m

@@ -12,7 +12,8 @@ use Rattle.model.specs.Issues.{issues_in}
 use Rattle.model.specs.Listing.{Slot, head_of, parts_of, passes_in, passes_written, slot_in_pass, row_of, rows_of_pass, rows_of_part, rows_of}
 use Rattle.model.specs.ListingLaws.{ListingSizes}
 use Rattle.pipelining.proofs.Length.{stage_below, stages_by_times}
-use Rattle.listing_laws.proofs.Each.{joined_append, joined_each, each_same, each_short, length_each}
+use Rattle.std.proofs.lemmas.Grind.{flat_map-append}
+use Rattle.listing_laws.proofs.Each.{joined_each, each_same, each_short, length_each}
 use Rattle.listing_laws.proofs.Reach.{head_far}
 use Rattle.listing_laws.proofs.Rows.{length_three, short, long, kind_of, split_of, passes_whole}
 use Rattle.listing_laws.proofs.Law.{ps, pass_in, pass_long}
@@ -87,8 +88,8 @@ module _ (ops : Loop) (w : Schedule) (name : ℕ → ℕ → ℕ → ℕ) (turns
       let R = rows_of_part ops w name turns trips Rest in
       omega (
         arith,
-        ap length (joined_append F (K ++ R)),
-        ap length (joined_append K R),
+        ap length (flat_map-append (λ row. row) F (K ++ R)),
+        ap length (flat_map-append (λ row. row) K R),
         length-append (flat_map (λ row. row) F) (flat_map (λ row. row) (K ++ R)),
         length-append (flat_map (λ row. row) K) (flat_map (λ row. row) R),
         part_short Front,

@@ -10,14 +10,14 @@ slot-requires-clause-known g c =
 
 pub push_reserved-requires : goal.push_reserved-requires
 push_reserved-requires g c =
-    issuing_room c.args.body.now (g.S.Scheme.meaning c.args.scheme.now) c.args.place c.args.row c.placed-placed-items.result.now c.placed-placed-items.ensures
+    issuing_room c.args.body.now g.S.Scheme.meaning c.args.place c.args.row c.placed-placed-items.result.now c.placed-placed-items.ensures
     c.loop-placed.placed-index c.placed-item.result c.loop-placed-test.true c.placed-item.is
     c.args.slots.now c.loop-placed.slots c.loop-placed.invariant c.if-issues.ensures c.requires
 
 pub loop-placed-preserved : goal.loop-placed-preserved
 loop-placed-preserved g c =
     let b = c.args.body.now in
-    let m = g.S.Scheme.meaning c.args.scheme.now in
+    let m = g.S.Scheme.meaning in
     let ps = c.placed-placed-items in
     elim c.if-issues.branch [
       | then-issues w ↦
@@ -32,6 +32,6 @@ loop-placed-preserved g c =
 pub returns : goal.returns
 returns g c =
     let end : c.loop-placed.placed-index ≡ length c.placed-placed-items.result.now = omega (arith, c.loop-placed.auto.placed-index-end, c.loop-placed-test.false) in
-    let all = issuing_all c.args.body.now (g.S.Scheme.meaning c.args.scheme.now) c.args.place c.args.row c.args.slots.now c.loop-placed.slots
+    let all = issuing_all c.args.body.now g.S.Scheme.meaning c.args.place c.args.row c.args.slots.now c.loop-placed.slots
     c.loop-placed.placed-index (rw c.placed-placed-items.ensures at end) c.loop-placed.invariant in
     record { items = all.items; len = all.len; capacity = all.cap }

@@ -3,4 +3,4 @@ use Rattle.listing.proofs.Appending.{Grown, issuing}
 use Rattle.listing.proofs.writing.push_slots.Given as goal
 
 abbrev pub invariant-loop-placed : goal.invariant-loop-placed
-invariant-loop-placed g l = Grown l.initial.slots l.slots (each (issuing l.body (g.S.Scheme.meaning l.scheme) l.place l.row) l.placed-index)
+invariant-loop-placed g l = Grown l.initial.slots l.slots (each (issuing l.body g.S.Scheme.meaning l.place l.row) l.placed-index)

@@ -19,7 +19,7 @@ pub write-requires : goal.write-requires
 write-requires g c =
     let b = c.new-body.result in
     let known = c.new-body.ensures in
-    let m = g.S.Scheme.meaning c.args.scheme.now in
+    let m = g.S.Scheme.meaning in
     let d = c.depth-stages.result in
     let f = c.farthest.result in
     let low : 1 ≤ c.args.schedule.now.interval = grind (arith, common_steps) in
@@ -33,7 +33,7 @@ pub invariant_of-self : goal.invariant_of-self
 invariant_of-self g c =
     let b = c.new-body.result in
     let known = c.new-body.ensures in
-    let m = g.S.Scheme.meaning c.args.scheme.now in
+    let m = g.S.Scheme.meaning in
     let d = c.depth-stages.result in
     let f = c.farthest.result in
     let low : 1 ≤ c.args.schedule.now.interval = grind (arith, common_steps) in
@@ -48,7 +48,7 @@ pub returns : goal.returns
 returns g c =
     let b = c.new-body.result in
     let known = c.new-body.ensures in
-    let m = g.S.Scheme.meaning c.args.scheme.now in
+    let m = g.S.Scheme.meaning in
     let d = c.depth-stages.result in
     let f = c.farthest.result in
     let low : 1 ≤ c.args.schedule.now.interval = grind (arith, common_steps) in
@@ -60,8 +60,8 @@ returns g c =
     let ops = loop_seen c.args.source.now in
     let w = schedule_seen c.args.schedule.now in
     let shallow : stages w (length ops) ≤ 8 = omega (arith, stages_same b d ops c.args.schedule.now known.source known.schedule c.depth-stages.ensures, c.if-stages-gt8.false) in
-    let is = is_listing _ b m ops c.args.schedule.now c.args.turns c.args.trips known.source known.schedule known.turns known.trips r c.write.ensures.keeps refl refl in
+    let is = is_listing _ b m ops c.args.schedule.now c.args.scheme.now c.args.turns c.args.trips known.source known.schedule known.scheme known.turns known.trips r c.write.ensures.keeps refl refl in
     record {
       written = (no_complaint ops w c.args.turns c.args.trips low high some few c.if-trips-gt4096.false shallow, is);
-      means = means_issues _ ops w m c.args.turns c.args.trips (g.met.S.Scheme.lawful c.args.scheme.now) low shallow is;
+      means = means_issues _ ops w (m c.args.scheme.now) c.args.turns c.args.trips (g.met.S.Scheme.lawful c.args.scheme.now) low shallow is;
     }
