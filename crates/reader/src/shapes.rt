@@ -1,5 +1,5 @@
 // The shapes of a token.
-ghost use Rattle.std.specs.Prelude.{◌≡◌, ℕ, ◌+◌, ◌<◌, ◌≤◌, Bool, true, false, ◌&&◌, length, drop};
+ghost use Rattle.std.specs.Prelude.{◌≡◌, ◌≤◌, ◌&&◌, length, drop};
 ghost use Rattle.std.specs.List.{prefix_len};
 ghost use Rattle.model.specs.Shapes.{every, between, digit, letter, is_name, is_number, is_negative, is_earlier, name_of, after_at};
 

@@ -1,5 +1,5 @@
 // The reserved words and the values of numbers.
-ghost use Rattle.std.specs.Prelude.{◌≡◌, ℕ, ◌+◌, ◌^◌, ◌<◌, ◌≤◌, Bool, true, false, length};
+ghost use Rattle.std.specs.Prelude.{◌≡◌, ◌^◌, ◌<◌, ◌≤◌, true, length};
 ghost use Rattle.model.specs.Shapes.{every, digit, is_number, value as amount_of, code_of, is_reserved};
 
 use model::Code;

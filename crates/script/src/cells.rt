@@ -1,7 +1,7 @@
 // Numbers and cells as a script writes them.
-ghost use Rattle.std.specs.Prelude.{◌≡◌, ℕ, ◌+◌, ◌*◌, ◌^◌, ◌<◌, ◌≤◌, Bool, true, false, length, fold};
+ghost use Rattle.std.specs.Prelude.{◌≡◌, ◌≤◌, length};
 ghost use Rattle.model.specs.Shapes.{every};
-ghost use Rattle.script.specs.Escapes.{hex_digit, hex_value};
+ghost use Rattle.script.specs.Escapes.{hex_digit};
 ghost use Rattle.script.specs.Cells.{count_of, length_of, word_of, hex_number, float_of, is_cell};
 
 use crate::escapes::{hex_value, is_hex};

@@ -1,5 +1,5 @@
 // Texts between quotes, with their escapes.
-ghost use Rattle.std.specs.Prelude.{◌≡◌, ℕ, ◌+◌, ◌<◌, ◌≤◌, Bool, true, false, length, Some, None};
+ghost use Rattle.std.specs.Prelude.{◌≡◌, ◌<◌, length};
 ghost use Rattle.script.specs.Escapes.{hex_digit, hex_value, step_of, unescaped};
 ghost use Rattle.script.specs.Spelling.{length_in, ended_at, fitting, filled};
 

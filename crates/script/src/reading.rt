@@ -1,9 +1,6 @@
 // The reading of a line of a call script.
-ghost use Rattle.std.specs.Prelude.{◌≡◌, ℕ, ◌+◌, ◌-◌, ◌<◌, ◌≤◌, Bool, true, false, ◌&&◌, length, take, codes};
-ghost use Rattle.model.specs.Shapes.{every, has_some};
-ghost use Rattle.script.specs.Cells.{is_cell, length_of};
-ghost use Rattle.script.specs.Escapes.{unescaped};
-ghost use Rattle.script.specs.Script.{words_of, is_quoted, quoted, expand_of, cells_fit, next_length, rest as words_behind, run_of, setting_of, is_blank, line_of};
+ghost use Rattle.std.specs.Prelude.{◌≡◌};
+ghost use Rattle.script.specs.Script.{words_of, quoted, expand_of, cells_fit, next_length, rest as words_behind, run_of, setting_of, is_blank, line_of};
 ghost use Rattle.script.specs.Script.{begins as begins_with};
 ghost use Rattle.script.specs.Seen.{line_seen, body_seen, run_in};
 

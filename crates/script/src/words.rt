@@ -1,5 +1,4 @@
 // The words of a line, one after another, each behind one space.
-ghost use Rattle.std.specs.Prelude.{◌≡◌};
 ghost use Rattle.std.specs.Iterator.{YieldsFirstRef, item_count};
 ghost use Rattle.script.specs.Script.{words_of};
 

@@ -1,5 +1,5 @@
 // Operands and cells of a line, with question 3: is each number in range?
-ghost use Rattle.std.specs.Prelude.{◌≡◌, ◌<◌, [], ◌∷◌, Ok};
+ghost use Rattle.std.specs.Prelude.{◌≡◌, [], ◌∷◌, Ok};
 ghost use Rattle.model.specs.LoopText.{use_of, operand_check, at_most, a_stride, an_offset};
 ghost use Rattle.model.specs.Shapes.{value as amount_of};
 ghost use Rattle.reader.specs.Seen.{operand_seen, number_seen};

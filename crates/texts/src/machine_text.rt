@@ -1,9 +1,9 @@
 // The reading of the machine text.
-ghost use Rattle.std.specs.Prelude.{◌≡◌, ◌<◌, not, ◌&&◌, map, length, position};
+ghost use Rattle.std.specs.Prelude.{◌≡◌, not, ◌&&◌, map, position};
 ghost use Rattle.model.specs.Shapes.{is_reserved, every, has_some};
 ghost use Rattle.model.specs.MachineText.{Machine, machine_rules, names_class, code_number};
 ghost use Rattle.reader.specs.Seen.{seen, word_seen, number_seen};
-ghost use Rattle.texts.specs.Seen.{told, entries_seen, classes_seen, unit_step, op_step, line_step};
+ghost use Rattle.texts.specs.Seen.{told, entries_seen, classes_seen, unit_step, op_step};
 ghost use Rattle.texts.specs.Forms.{UnitFormed, OpFormed, called};
 
 use crate::entries::{Class, Entries};
