@@ -3,3 +3,4 @@
 
 pub mod form;
 pub mod issue;
+mod shown;

@@ -1,5 +1,5 @@
 -- The run of the program is the machine's.
-use Rattle.std.proofs.Common.{◌≡◌, ℕ, zero, suc, ◌+◌, ◌*◌, ◌%◌, ◌^◌, ◌<◌, ◌≤◌, Bool, true, false, cond, ◌&&◌, ltb, leb, List, length, get_or, replicate, Some, None, Ok, Err, Result, sym, refl, ap, ◌∙◌, subst, inl, inr, add-one, arith}
+use Rattle.std.proofs.Common.{◌≡◌, ℕ, zero, suc, ◌+◌, ◌^◌, ◌<◌, ◌≤◌, Bool, true, false, cond, ◌&&◌, ltb, leb, List, [], length, get_or, replicate, Ok, Err, Result, sym, refl, ap, ◌∙◌, subst, inl, inr, add-one, arith}
 use lib.ListN.{get_or-replicate, length-replicate}
 use Rattle.std.proofs.lemmas.List.{get_or_past}
 use Rattle.std.proofs.lemmas.Bool.{cases_eq, cases_lt, and_parts, ltb-true, leb-true}
@@ -10,7 +10,10 @@ use Rattle.model.specs.Domains.{Domain}
 use Rattle.model.specs.Issues.{Form}
 use Rattle.model.specs.Driving as driving
 use Rattle.model.specs.Driving.{Machine, Outcome, finished, stopped, go_on, cycle, run, all_below}
+use Rattle.std.proofs.lemmas.List.Elements.{All-nil}
 use Rattle.engine_laws.proofs.Below.{all_below_each}
+use Rattle.engine_slots.specs.Boards.{taken_in}
+use Rattle.engine_writes.specs.Lists.{lists_of}
 use Rattle.engine.specs.declared.answer.Fault.{Fault}
 use Rattle.engine.specs.declared.answer.Refusal.TheVariants.{Timing as BadTiming, Files, Cycles}
 use Rattle.engine.specs.declared.answer.Halt.{Halt}
@@ -32,10 +35,10 @@ module _ {V : Type 0} (dom : Domain V) (units : ℕ → ℕ) (k trips file : ℕ
   abbrev first : Machine V
   first = lent dom memory₀ values₀ waiting₀
 
-  pub at_first : 0 < file → (t : Tables) → t.status ≡ replicate 256 Never → t.taken ≡ replicate 64 0 → t.dues ≡ replicate 256 0 →
+  pub at_first : (t : Tables) → t.board.statuses.status ≡ replicate 256 Never → ((u y : ℕ) → taken_in t.board.units u y ≡ 0) → ((x : ℕ) → lists_of t.dues x ≡ []) →
       Running dom units k trips file form first 0 memory₀ values₀ waiting₀ t
   unfolding run
-  at_first some t status taken dues = (
+  at_first t status taken dues = (
     first,
     (
       refl,
@@ -43,11 +46,11 @@ module _ {V : Type 0} (dom : Domain V) (units : ℕ → ℕ) (k trips file : ℕ
         left = record { memory = refl; values = refl; waiting = refl };
         follows = record {
           statuses = λ r. rw status (get_d_all 256 Never r);
-          units = λ u y few from to. rw taken (get_d_all {A = ℕ} 64 0 (y % 8 * 8 + u));
+          units = λ u y few from to. taken u y;
           beyond = λ u y far. refl;
         };
         pending = λ r waits. let z : ◌≡◌ {A = ℕ} 0 1 = cc in absurd (omega arith);
-        registers = λ i. rw (dues, get_d_all {A = ℕ} 256 0 i) some;
+        registers = λ x. rw (dues x) (All-nil (λ r. r < file));
       },
     ),
   )
@@ -58,7 +61,7 @@ module _ {V : Type 0} (dom : Domain V) (units : ℕ → ℕ) (k trips file : ℕ
     unfolding run
     next o e = rw (add-one c) (ap (go_on (cycle dom units k trips c (form c))) running.1.0 ∙ e)
 
-    pub one_more : CycleKept dom units trips file k c form memory values waiting t memory' values' waiting' t' None →
+    pub one_more : CycleKept dom units trips file k c form memory values waiting t memory' values' waiting' t' (Ok tt) →
         Running dom units k trips file form first (c + 1) memory' values' waiting' t'
     one_more kept =
         let done = kept running.0 running.1.1 in
@@ -72,7 +75,7 @@ module _ {V : Type 0} (dom : Domain V) (units : ℕ → ℕ) (k trips file : ℕ
       | inr z ↦ rw (stays f m x e (omega arith)) refl
     ]
 
-    pub stops : (d : Denial) (cycles : ℕ) → c < cycles → CycleKept dom units trips file k c form memory values waiting t memory' values' waiting' t' (Some d) →
+    pub stops : (d : Denial) (cycles : ℕ) → c < cycles → CycleKept dom units trips file k c form memory values waiting t memory' values' waiting' t' (Err d) →
         Ran dom (run dom units k trips form cycles first) memory' values' waiting' (Err (record { question = d.question; cycle = c; slot = d.slot }))
     stops d cycles h kept =
         let done = kept running.0 running.1.1 in

@@ -1,5 +1,5 @@
 -- A cycle of the program is a cycle of the machine.
-use Rattle.std.proofs.Common.{◌≡◌, ℕ, ◌+◌, ◌-◌, ◌/◌, ◌%◌, List, length, get_or, replicate, Some, None, Option, sym, refl, ap, ◌∙◌, subst, arith}
+use Rattle.std.proofs.Common.{◌≡◌, ℕ, ◌+◌, ◌-◌, ◌/◌, ◌%◌, List, length, get_or, replicate, Ok, Err, Option, sym, refl, ap, ◌∙◌, subst, arith}
 use mathlib.Core.Path.{fun_ext}
 use lib.ListN.{length-replicate}
 use Rattle.model.specs.declared.Status.{Status}
@@ -13,13 +13,15 @@ use Rattle.model.specs.Codes.{CodeSlot, CodeRows, slot_in, form_of, gathered}
 use Rattle.engine_laws.specs.Parts.{statuses, takens}
 use Rattle.engine_laws.specs.Tracks.{Tracks}
 use Rattle.engine_laws.specs.Rows.{slots_from, Examined}
-use Rattle.engine_laws.specs.Dues.{Pending}
+use Rattle.engine_laws.specs.Dues.{Pending, Registers}
 use Rattle.engine_laws.proofs.Apart.{gathered_map, in_parts, issued_in_parts}
 use Rattle.engine_laws.proofs.Machines.{machine_same, examined_alike}
 use Rattle.engine_slots.specs.declared.slot.Denial.{Denial}
 use Rattle.engine.specs.declared.tables.Tables.{Tables}
 use Rattle.engine_writes.specs.declared.waiting.Waiting.{Waiting}
 use Rattle.engine_writes.specs.Files.{value_file, waiting_file, Done, LandsAll}
+use Rattle.engine_slots.specs.Boards.{taken_in}
+use Rattle.engine_writes.specs.Lists.{lists_of}
 use Rattle.engine_slots.specs.Rows.{slot_at}
 use Rattle.engine_writes.specs.Steps.{Waited, Stored}
 use Rattle.engine.specs.Runs.{Left, Stands, Cycled}
@@ -31,17 +33,17 @@ row_slots resolve timings rows issued k c p r first end pass row is = rw (pass, 
 
 -- What is due lands, and the lists are right for the next cycle.
 pub landings : {V : Type 0} (dom : Domain V) (c file entries : ℕ) (m : Machine V) (memory values : List V) (waiting : List (Waiting V)) (t : Tables) →
-    Stands dom file c m memory values waiting t → entries ≡ file → (status' : List Status) (values' : List V) (counts' : List ℕ) →
-    LandsAll c waiting t.status values entries t.dues t.counts status' values' counts' →
-    ((r : ℕ) → Done c waiting t.status values status' values' (nought dom) r) ×
-    Pending file (c + 1) (λ r. get_or status' r Never) (waiting_file (nought dom) waiting) t.dues counts'
-landings dom c file entries m memory values waiting t stands same status' values' counts' lands =
-    subst (λ n. LandsAll c waiting t.status values n t.dues t.counts status' values' counts') same lands (nought dom)
+    Stands dom file c m memory values waiting t → entries ≡ file → (status' : List Status) (values' : List V) (lists' : ℕ → List ℕ) →
+    LandsAll c waiting t.board.statuses.status values entries (lists_of t.dues) status' values' lists' →
+    ((r : ℕ) → Done c waiting t.board.statuses.status values status' values' (nought dom) r) ×
+    Pending file (c + 1) (λ r. get_or status' r Never) (waiting_file (nought dom) waiting) lists'
+landings dom c file entries m memory values waiting t stands same status' values' lists' lands =
+    subst (λ n. LandsAll c waiting t.board.statuses.status values n (lists_of t.dues) status' values' lists') same lands (nought dom)
     (λ r waits. stands.pending r (sym (stands.follows.statuses r) ∙ waits))
 
 module _ {V : Type 0} (dom : Domain V) (units : ℕ → ℕ) (k trips c file : ℕ) (form : Form) (slots : List Slot) (is : form c ≡ slots) (m : Machine V)
     (memory values : List V) (waiting : List (Waiting V)) (t : Tables) (stands : Stands dom file c m memory values waiting t)
-    (status' : List Status) (values' : List V) (done : (r : ℕ) → Done c waiting t.status values status' values' (nought dom) r) where
+    (status' : List Status) (values' : List V) (done : (r : ℕ) → Done c waiting t.board.statuses.status values status' values' (nought dom) r) where
   abbrev seen : Machine V
   seen = record {
     memory = memory;
@@ -63,7 +65,7 @@ module _ {V : Type 0} (dom : Domain V) (units : ℕ → ℕ) (k trips c file : �
   unfolding land
   landed = machine_same (land c m) seen stands.left.memory (fun_ext landed_values) stands.left.waiting (fun_ext landed_status) refl
 
-  tracks_seen : Tracks c status' t.taken seen.status seen.taken
+  tracks_seen : Tracks c status' (taken_in t.board.units) seen.status seen.taken
   tracks_seen = record { statuses = λ r. refl; units = stands.follows.units; beyond = stands.follows.beyond }
 
   abbrev bare : Machine ℕ
@@ -75,8 +77,8 @@ module _ {V : Type 0} (dom : Domain V) (units : ℕ → ℕ) (k trips c file : �
     taken = seen.taken;
   }
 
-  module _ (p : ℕ) (pass : c / k ≡ p) (status'' : List Status) (taken'' : List ℕ) (e : Examination)
-      (examined : Examined units trips (length memory) p c slots status' t.taken status'' taken'' e) where
+  module _ (p : ℕ) (pass : c / k ≡ p) (status'' : List Status) (taken'' : ℕ → ℕ → ℕ) (e : Examination)
+      (examined : Examined units trips (length memory) p c slots status' (taken_in t.board.units) status'' taken'' e) where
     told : examine units k trips c 0 slots seen ≡ e
     told =
         examined_alike units k trips c slots 0 seen bare refl refl (sym (length-replicate (length memory) 0)) ∙
@@ -92,9 +94,9 @@ module _ {V : Type 0} (dom : Domain V) (units : ℕ → ℕ) (k trips c file : �
     tracks_after : e ≡ passed → Tracks c status'' taken'' (statuses slots seen.status) (takens c slots seen.taken)
     tracks_after is = (examined k bare pass (length-replicate (length memory) 0) tracks_seen).1 is
 
-  pub denied : (p : ℕ) → c / k ≡ p → (status'' : List Status) (taken'' : List ℕ) (d : Denial) (t' : Tables) →
-      Examined units trips (length memory) p c slots status' t.taken status'' taken'' (failed d.question d.slot) →
-      Cycled dom units trips file k c form m memory values' waiting t' (Some d)
+  pub denied : (p : ℕ) → c / k ≡ p → (status'' : List Status) (taken'' : ℕ → ℕ → ℕ) (d : Denial) (t' : Tables) →
+      Examined units trips (length memory) p c slots status' (taken_in t.board.units) status'' taken'' (failed d.question d.slot) →
+      Cycled dom units trips file k c form m memory values' waiting t' (Err d)
   denied p pass status'' taken'' d t' examined = (
     seen,
     (
@@ -103,14 +105,15 @@ module _ {V : Type 0} (dom : Domain V) (units : ℕ → ℕ) (k trips c file : �
     ),
   )
 
-  pub admitted : (p : ℕ) → c / k ≡ p → (status'' : List Status) (taken'' : List ℕ) (memory'' : List V) (waiting'' : List (Waiting V)) (counts' : List ℕ) (t' : Tables) →
-      Examined units trips (length memory) p c slots status' t.taken status'' taken'' passed →
-      Pending file (c + 1) (λ r. get_or status' r Never) (waiting_file (nought dom) waiting) t.dues counts' →
-      Waited dom values' p memory c file slots waiting t.dues counts' waiting'' t'.dues t'.counts →
+  pub admitted : (p : ℕ) → c / k ≡ p → (status'' : List Status) (taken'' : ℕ → ℕ → ℕ) (memory'' : List V) (waiting'' : List (Waiting V)) (lists' : ℕ → List ℕ) (t' : Tables) →
+      Examined units trips (length memory) p c slots status' (taken_in t.board.units) status'' taken'' passed →
+      Pending file (c + 1) (λ r. get_or status' r Never) (waiting_file (nought dom) waiting) lists' →
+      Registers lists' file →
+      Waited dom values' p memory c file slots waiting lists' waiting'' (lists_of t'.dues) →
       Stored dom values' p slots memory memory'' →
-      ((s : ℕ → Status) (x : ℕ → ℕ → ℕ) → Tracks c status'' taken'' s x → Tracks (c + 1) t'.status t'.taken s x) →
-      Cycled dom units trips file k c form m memory'' values' waiting'' t' None
-  admitted p pass status'' taken'' memory'' waiting'' counts' t' examined pending waited stored next =
+      ((s : ℕ → Status) (x : ℕ → ℕ → ℕ) → Tracks c status'' taken'' s x → Tracks (c + 1) t'.board.statuses.status (taken_in t'.board.units) s x) →
+      Cycled dom units trips file k c form m memory'' values' waiting'' t' (Ok tt)
+  admitted p pass status'' taken'' memory'' waiting'' lists' t' examined pending registers waited stored next =
       let now = in_parts dom k c seen slots seen in
       let left : Left dom now memory'' values' waiting'' = record {
         memory = rw pass (sym (stored memory));
@@ -126,7 +129,7 @@ module _ {V : Type 0} (dom : Domain V) (units : ℕ → ℕ) (k trips c file : �
               left = left;
               follows = next (statuses slots seen.status) (takens c slots seen.taken) (tracks_after p pass status'' taken'' passed examined refl);
               pending = waited.lists seen.status pending;
-              registers = waited.registers stands.registers;
+              registers = waited.registers registers;
             },
           ),
         ),

@@ -8,10 +8,12 @@ ghost use Rattle.engine_slots.specs.Rows.{units_of};
 ghost use Rattle.engine.specs.Answers.{timing_held, begins, lent, Driven, Ran};
 
 use crate::answer::{Fault, Halt, Refusal};
-use crate::cycles::run_cycle;
+use crate::driver::Driver;
 use crate::run::{Moment, Run};
 use crate::tables::Tables;
 use code::form::Code;
+use engine_slots::held::Held;
+use engine_slots::program::Program;
 use engine_slots::slot::Hardware;
 use engine_slots::units::{AHEAD, CLASSES};
 use engine_writes::waiting::Waiting;
@@ -36,12 +38,7 @@ fn are_held(timings: &[Timing; CODES]) -> bool
     ensures is { result ≡ all_below (λ j. timing_held (timing timings.now j)) 6 }
     ensures held { result ≡ true → TimingsHeld timings.now }
 {
-    for j in 0..CODES {
-        if !is_held(timings[j]) {
-            return false;
-        }
-    }
-    true
+    timings.iter().all(|timing| is_held(*timing))
 }
 
 fn count_cycles(run: Run) -> Option<usize>
@@ -71,64 +68,53 @@ fn begin(
     count_cycles(run).ok_or(Refusal::Cycles)
 }
 
-// Runs so many cycles, unless a no stops them.
-fn run_cycles<C: Code, S: Scheme, D: Domain>(
-    code: &C,
-    scheme: &S,
-    domain: &D,
-    hardware: &Hardware,
-    run: Run,
-    cycles: usize,
-    memory: &mut [D::Value],
-    values: &mut [D::Value],
-    waiting: &mut [Waiting<D::Value>],
-) -> Result<(), Fault>
-    requires held { (TimingsHeld hardware.now.timings) × ((cycles + 8 < 2 ^ 64) × (cycles ≡ run.passes * run.interval)) }
-    requires fits { ((S.meaning scheme.now).file ≤ length values.old) × ((S.meaning scheme.now).file ≤ length waiting.old) }
-    ensures { Ran D.operations
-        (run_of D.operations (units_of hardware.now.units) run.interval run.trips
-        (form_of (S.meaning scheme.now).resolve hardware.now.timings run.interval (C.form code.now)) cycles
-        (lent D.operations memory.old values.old waiting.old))
-        memory.new values.new waiting.new result }
-{
-    let mut tables = Tables::new();
-    let mut pass = 0;
-    let mut row = 0;
-    for cycle in 0..cycles {
-        let moment = Moment { pass, row, cycle };
-        if let Some(denial) = run_cycle(
-            code,
-            scheme,
-            domain,
-            hardware,
-            run.trips,
-            moment,
-            memory,
-            values,
-            waiting,
-            &mut tables,
-        ) {
-            return Err(Fault {
-                question: denial.question,
-                cycle,
-                slot: denial.slot,
-            });
+impl<C: Code, S: Scheme, D: Domain> Driver<'_, C, S, D> {
+    // Runs so many cycles, each pass one interval, unless a no stops them.
+    fn run_cycles(
+        &self,
+        interval: usize,
+        cycles: usize,
+        memory: &mut [D::Value],
+        values: &mut [D::Value],
+        waiting: &mut [Waiting<D::Value>],
+    ) -> Result<(), Fault>
+        requires soon { cycles + 8 < 2 ^ 64 }
+        requires passes { interval ≡ 0 → cycles ≡ 0 }
+        requires fits { ((S.meaning self.now.program.scheme.now).file ≤ length values.old) × ((S.meaning self.now.program.scheme.now).file ≤ length waiting.old) }
+        ensures { Ran D.operations
+            (run_of D.operations (units_of self.now.program.held.hardware.now.units) interval self.now.trips
+            (form_of (S.meaning self.now.program.scheme.now).resolve self.now.program.held.hardware.now.timings interval (C.form self.now.program.code.now)) cycles
+            (lent D.operations memory.old values.old waiting.old))
+            memory.new values.new waiting.new result }
+    {
+        let mut tables = Tables::new();
+        let mut pass = 0;
+        let mut row = 0;
+        for cycle in 0..cycles {
+            let moment = Moment { pass, row, cycle };
+            if let Err(denial) = self.run_cycle(moment, memory, values, waiting, &mut tables) {
+                return Err(Fault {
+                    question: denial.question,
+                    cycle,
+                    slot: denial.slot,
+                });
+            }
+            row += 1;
+            if row == interval {
+                row = 0;
+                pass += 1;
+            }
         }
-        row += 1;
-        if row == run.interval {
-            row = 0;
-            pass += 1;
-        }
+        Ok(())
     }
-    Ok(())
 }
 
 // Runs code on the driving machine, with memory and both files lent, and answers its cycles.
-pub fn drive<C: Code, S: Scheme, D: Domain>(
-    code: &C,
-    scheme: &S,
-    domain: &D,
-    hardware: &Hardware,
+pub fn drive<'a, C: Code, S: Scheme, D: Domain>(
+    code: &'a C,
+    scheme: &'a S,
+    domain: &'a D,
+    hardware: &'a Hardware,
     run: Run,
     memory: &mut [D::Value],
     values: &mut [D::Value],
@@ -148,8 +134,15 @@ pub fn drive<C: Code, S: Scheme, D: Domain>(
         waiting.len(),
         run,
     )?;
-    run_cycles(
-        code, scheme, domain, hardware, run, cycles, memory, values, waiting,
-    )?;
+    let driver = Driver {
+        program: Program {
+            code,
+            scheme,
+            held: Held { hardware },
+        },
+        domain,
+        trips: run.trips,
+    };
+    driver.run_cycles(run.interval, cycles, memory, values, waiting)?;
     Ok(cycles)
 }

@@ -3,10 +3,11 @@
 
 pub mod answer;
 mod cycles;
+mod driver;
 pub mod driving;
 pub mod run;
 mod tables;
 
 // The parts of the machine, under this crate's name too.
-pub use engine_slots::{asking, examining, slot, slots, units};
-pub use engine_writes::{dues, landing, reading, waiting};
+pub use engine_slots::{asking, board, examining, held, program, slot, slots, statuses, units};
+pub use engine_writes::{dues, landing, operands, reading, waiting};

@@ -1,33 +1,28 @@
-// The machine's own state: what each register awaits, the units taken, and the registers whose writes are due.
-ghost use Rattle.std.specs.Prelude.{◌≡◌, replicate};
+// The machine's own state: the tables of the questions, and the registers whose writes are due.
+ghost use Rattle.std.specs.Prelude.{◌≡◌, ℕ, [], replicate};
 ghost use Rattle.model.specs.declared.Status.TheVariants.{Never};
+ghost use Rattle.engine_slots.specs.Boards.{taken_in};
+ghost use Rattle.engine_writes.specs.Lists.{lists_of};
 
-use engine_slots::asking::REGISTERS;
-use engine_slots::units::{AHEAD, PLACES};
-use engine_writes::dues::LISTS;
-use model::Status;
+use engine_slots::board::Board;
+use engine_writes::dues::Dues;
 
 #[derive(Clone, Copy)]
 pub struct Tables {
-    pub status: [Status; REGISTERS],
-    pub taken: [usize; PLACES],
-    pub dues: [usize; LISTS],
-    pub counts: [usize; AHEAD],
+    pub board: Board,
+    pub dues: Dues,
 }
 
 impl Tables {
     // At first no register has landed or awaits a write, and no unit is taken.
     pub fn new() -> Tables
-        ensures status { result.status ≡ replicate 256 Never }
-        ensures taken { result.taken ≡ replicate 64 0 }
-        ensures dues { result.dues ≡ replicate 256 0 }
-        ensures counts { result.counts ≡ replicate 8 0 }
+        ensures statuses { result.board.statuses.status ≡ replicate 256 Never }
+        ensures units { (u y : ℕ) → taken_in result.board.units u y ≡ 0 }
+        ensures dues { (x : ℕ) → lists_of result.dues x ≡ [] }
     {
         Tables {
-            status: [Status::Never; REGISTERS],
-            taken: [0; PLACES],
-            dues: [0; LISTS],
-            counts: [0; AHEAD],
+            board: Board::new(),
+            dues: Dues::new(),
         }
     }
 }

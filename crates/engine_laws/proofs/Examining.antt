@@ -10,7 +10,7 @@ use Rattle.model.specs.Issues.{Source, constant, register, Slot, iteration_in}
 use Rattle.model.specs.Driving.{Machine, Examination, ask, all_below, all_of, put, unit_free, readable, operands_landed, cell_in_memory, result_free, iteration_runs, reserved, examine}
 use Rattle.engine_laws.proofs.Below.{all_below_each}
 use Rattle.engine_laws.specs.Parts.{status_after, taken_after}
-use Rattle.engine_laws.specs.Tracks.{unit_place, Tracks, use_for, unit_free_by, readable_by, landed_by, cell_by, free_by, verdict, verdict_by, judged}
+use Rattle.engine_laws.specs.Tracks.{Tracks, use_for, unit_free_by, readable_by, landed_by, cell_by, free_by, verdict, verdict_by, judged}
 
 all_below_same : (p q : ℕ → Bool) (n : ℕ) → ((b : ℕ) → b < n → p b ≡ q b) → all_below p n ≡ all_below q n
 all_below_same p q zero same = refl
@@ -30,7 +30,7 @@ asked true true true false e n rest = refl
 asked true true true true false n rest = refl
 asked true true true true true n rest = refl
 
-module _ {V : Type 0} (c : ℕ) (status : List Status) (taken : List ℕ) (m : Machine V) (h : Tracks c status taken m.status m.taken) where
+module _ {V : Type 0} (c : ℕ) (status : List Status) (taken : ℕ → ℕ → ℕ) (m : Machine V) (h : Tracks c status taken m.status m.taken) where
   free_same : (units : ℕ → ℕ) (slot : Slot) → slot.class < 8 → slot.busy ≤ 8 →
       unit_free units c slot m ≡ unit_free_by taken (units slot.class) c slot.class slot.busy
   free_same units slot few short =
@@ -63,9 +63,9 @@ status_tracked status s slot h within r = go (makes slot.operation)
     go false = h r
 
 -- Both tables after a slot.
-pub slot_tracked : (c : ℕ) (status : List Status) (taken taken' : List ℕ) (s : ℕ → Status) (t : ℕ → ℕ → ℕ) (slot : Slot) →
+pub slot_tracked : (c : ℕ) (status : List Status) (taken taken' : ℕ → ℕ → ℕ) (s : ℕ → Status) (t : ℕ → ℕ → ℕ) (slot : Slot) →
     Tracks c status taken s t → slot.target < length status → slot.busy ≤ 8 →
-    ((u y : ℕ) → u < 8 → c ≤ y → y < c + 8 → get_or taken' (unit_place u y) 0 ≡ get_or taken (unit_place u y) 0 + use_for u y c slot.class slot.busy) →
+    ((u y : ℕ) → u < 8 → c ≤ y → y < c + 8 → taken' u y ≡ taken u y + use_for u y c slot.class slot.busy) →
     Tracks c (cond (makes slot.operation) (set status slot.target Waits) status) taken' (status_after slot s) (taken_after c slot t)
 slot_tracked c status taken taken' s t slot h within short took = record {
   statuses = status_tracked status s slot h.statuses within;
@@ -86,10 +86,10 @@ pub verdict_unit : (a b c d e : Bool) → verdict a b c d e ≡ None → a ≡ t
 verdict_unit true b c d e h = refl
 verdict_unit false b c d e h = let z : ◌≡◌ {A = ℕ} 0 1 = cc in absurd (omega arith)
 
-pub room_left : (status : List Status) (taken : List ℕ) (units trips cells p c : ℕ) (slot : Slot) →
-    None ≡ verdict_by status taken (λ _. units) trips cells p c slot → units < 2 ^ 64 →
-    (b : ℕ) → b < slot.busy → get_or taken (unit_place slot.class (c + b)) 0 < 2 ^ 64 - 1
+pub room_left : (status : List Status) (taken : ℕ → ℕ → ℕ) (units : ℕ → ℕ) (trips cells p c : ℕ) (slot : Slot) →
+    None ≡ verdict_by status taken units trips cells p c slot → units slot.class < 2 ^ 64 →
+    (b : ℕ) → b < slot.busy → taken slot.class (c + b) < 2 ^ 64 - 1
 room_left status taken units trips cells p c slot h fits b below =
-    let free = verdict_unit (unit_free_by taken units c slot.class slot.busy) (landed_by status slot) (iteration_runs p trips slot) (cell_by cells (p - slot.stage) slot) (free_by status slot) (sym h) in
-    let here = ltb-true _ _ (all_below_each (λ x. ltb (get_or taken (unit_place slot.class (c + x)) 0) units) slot.busy b free below) in
+    let free = verdict_unit (unit_free_by taken (units slot.class) c slot.class slot.busy) (landed_by status slot) (iteration_runs p trips slot) (cell_by cells (p - slot.stage) slot) (free_by status slot) (sym h) in
+    let here = ltb-true _ _ (all_below_each (λ x. ltb (taken slot.class (c + x)) (units slot.class)) slot.busy b free below) in
     omega arith

@@ -1,11 +1,11 @@
 -- Machines that are alike, and the tables of the next cycle.
-use Rattle.std.proofs.Common.{◌≡◌, ℕ, suc, ◌+◌, ◌%◌, ◌<◌, Bool, ◌&&◌, List, [], ◌∷◌, length, get_or, sym, refl, ap, ◌∙◌, ap₂, inl, inr, arith}
+use Rattle.std.proofs.Common.{◌≡◌, ℕ, suc, ◌+◌, ◌%◌, ◌<◌, Bool, ◌&&◌, List, [], ◌∷◌, length, sym, refl, ap, ◌∙◌, ap₂, inl, inr, arith}
 use Rattle.std.proofs.lemmas.Bool.{cases_eq}
 use Rattle.model.specs.declared.Status.{Status}
 use Rattle.model.specs.Loop.{operands}
 use Rattle.model.specs.Issues.{Source, constant, register, Slot}
 use Rattle.model.specs.Driving.{Waiting, Machine, all_of, readable, operands_landed, reserved, examine}
-use Rattle.engine_laws.specs.Tracks.{unit_place, Tracks}
+use Rattle.engine_laws.specs.Tracks.{Tracks}
 
 pub machine_same : {V : Type 0} (m n : Machine V) → m.memory ≡ n.memory → m.values ≡ n.values → m.waiting ≡ n.waiting → m.status ≡ n.status → m.taken ≡ n.taken → m ≡ n
 machine_same {V} m n a b c d e =
@@ -39,9 +39,9 @@ module _ {V W : Type 0} (units : ℕ → ℕ) (k trips c : ℕ) where
       rw (rest, landed, s, t, l) refl
 
 -- The tables after a cycle: its units are forgotten.
-pub next_cycle : (c : ℕ) (status : List Status) (taken taken' : List ℕ) (s : ℕ → Status) (t : ℕ → ℕ → ℕ) → Tracks c status taken s t →
-    ((u y : ℕ) → u < 8 → y % 8 ≡ c % 8 → get_or taken' (unit_place u y) 0 ≡ 0) →
-    ((u y : ℕ) → u < 8 → (y % 8 ≡ c % 8 → ⊥) → get_or taken' (unit_place u y) 0 ≡ get_or taken (unit_place u y) 0) →
+pub next_cycle : (c : ℕ) (status : List Status) (taken taken' : ℕ → ℕ → ℕ) (s : ℕ → Status) (t : ℕ → ℕ → ℕ) → Tracks c status taken s t →
+    ((u y : ℕ) → u < 8 → y % 8 ≡ c % 8 → taken' u y ≡ 0) →
+    ((u y : ℕ) → u < 8 → (y % 8 ≡ c % 8 → ⊥) → taken' u y ≡ taken u y) →
     Tracks (c + 1) status taken' s t
 next_cycle c status taken taken' s t h cleared others = record {
   statuses = h.statuses;

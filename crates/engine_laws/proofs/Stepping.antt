@@ -11,7 +11,7 @@ use Rattle.engine_laws.specs.Rows.{slots_from, Reached}
 use Rattle.engine_laws.proofs.Apart.{gathered_first, gathered_end}
 use Rattle.engine_laws.proofs.Examining.{examined_one}
 
-module _ (units : ℕ → ℕ) (k trips c : ℕ) (f : ℕ → Option Slot) (end first : ℕ) (status : List Status) (taken : List ℕ) (at n : ℕ) (m now : Machine ℕ)
+module _ (units : ℕ → ℕ) (k trips c : ℕ) (f : ℕ → Option Slot) (end first : ℕ) (status : List Status) (taken : ℕ → ℕ → ℕ) (at n : ℕ) (m now : Machine ℕ)
     (r : Reached units k trips c f end first status taken at n m now) where
   -- nothing issues from the place
   pub passed_over : at < end → f at ≡ None → Reached units k trips c f end first status taken (at + 1) n m now
@@ -39,7 +39,7 @@ module _ (units : ℕ → ℕ) (k trips c : ℕ) (f : ℕ → Option Slot) (end 
         examine units k trips c 0 (slots_from f end first) m ≡ failed q n
     denied q v = one ∙ ap (λ o. judged o n (examine units k trips c (suc n) (slots_from f end (at + 1)) (reserved c slot now))) (sym v)
 
-    pub admitted : (status' : List Status) (taken' : List ℕ) → None ≡ verdict_by status taken units trips cells p c slot →
+    pub admitted : (status' : List Status) (taken' : ℕ → ℕ → ℕ) → None ≡ verdict_by status taken units trips cells p c slot →
         Tracks c status' taken' (status_after slot now.status) (taken_after c slot now.taken) →
         Reached units k trips c f end first status' taken' (at + 1) (n + 1) m (reserved c slot now)
     unfolding reserved statuses takens
@@ -61,6 +61,6 @@ module _ (units : ℕ → ℕ) (k trips c : ℕ) (f : ℕ → Option Slot) (end 
   )
 
 -- at first
-pub at_first : (units : ℕ → ℕ) (k trips c : ℕ) (f : ℕ → Option Slot) (end first : ℕ) (status : List Status) (taken : List ℕ) (m : Machine ℕ) →
+pub at_first : (units : ℕ → ℕ) (k trips c : ℕ) (f : ℕ → Option Slot) (end first : ℕ) (status : List Status) (taken : ℕ → ℕ → ℕ) (m : Machine ℕ) →
     Tracks c status taken m.status m.taken → Reached units k trips c f end first status taken first 0 m m
 at_first units k trips c f end first status taken m h = record { follows = h; cells = refl; answer = refl; statuses_left = refl; takens_left = refl }

@@ -1,5 +1,5 @@
 -- How the tables of a program follow the driving machine in cycle c.
-use Rattle.std.specs.Prelude.{◌≡◌, ℕ, ◌+◌, ◌-◌, ◌*◌, ◌%◌, ◌<◌, ◌≤◌, Bool, true, cond, not, ◌&&◌, ◌||◌, ltb, List, Some, None, Option, ◌==◌, nat_le, nat_lt, slice_index, slice_index_or}
+use Rattle.std.specs.Prelude.{◌≡◌, ℕ, ◌+◌, ◌-◌, ◌<◌, ◌≤◌, Bool, true, cond, not, ◌&&◌, ◌||◌, ltb, List, Some, None, Option, ◌==◌, nat_le, nat_lt, slice_index_or}
 use Rattle.model.specs.declared.Question.{Question}
 use Rattle.model.specs.declared.Question.TheVariants.{UnitFree, OperandsLanded, IterationRuns, CellInMemory, ResultFree}
 use Rattle.model.specs.declared.Status.{Status}
@@ -8,14 +8,10 @@ use Rattle.model.specs.Loop.{operands, makes, in_memory, stride_of, offset_of, c
 use Rattle.model.specs.Issues.{Source, constant, register, Slot}
 use Rattle.model.specs.Driving.{Examination, failed, all_below, all_of, awaits, has_landed, iteration_runs}
 
--- The units of class u in cycle y are counted at this place; there are places for 8 cycles and 8 classes.
-abbrev pub unit_place : ℕ → ℕ → ℕ
-unit_place u y = y % 8 * 8 + u
-
--- The table of statuses is that of the machine, and the table of units is so for cycles c to c + 7; nothing is taken behind them.
-pub record Tracks (c : ℕ) (status : List Status) (taken : List ℕ) (s : ℕ → Status) (t : ℕ → ℕ → ℕ) : Type 0 where
+-- The table of statuses is that of the machine, and the units that are counted, of a class in a cycle, are so for 8 classes and cycles c to c + 7; nothing is taken behind them.
+pub record Tracks (c : ℕ) (status : List Status) (taken : ℕ → ℕ → ℕ) (s : ℕ → Status) (t : ℕ → ℕ → ℕ) : Type 0 where
   pub statuses : (r : ℕ) → slice_index_or status r Never ≡ s r
-  pub units : (u y : ℕ) → u < 8 → c ≤ y → y < c + 8 → slice_index taken (unit_place u y) ≡ t u y
+  pub units : (u y : ℕ) → u < 8 → c ≤ y → y < c + 8 → taken u y ≡ t u y
   pub beyond : (u y : ℕ) → c + 8 ≤ y → t u y ≡ 0
 
 -- What takes a unit of a class from cycle c on uses one of class u in cycle y, or not: 1 or 0.
@@ -23,8 +19,8 @@ abbrev pub use_for : ℕ → ℕ → ℕ → ℕ → ℕ → ℕ
 use_for u y c class busy = cond (class == u && (nat_le c y && nat_lt y (c + busy))) 1 0
 
 -- The questions, by the tables.
-abbrev pub unit_free_by : List ℕ → ℕ → ℕ → ℕ → ℕ → Bool
-unit_free_by taken units c class busy = all_below (λ b. ltb (slice_index taken (unit_place class (c + b))) units) busy
+abbrev pub unit_free_by : (ℕ → ℕ → ℕ) → ℕ → ℕ → ℕ → ℕ → Bool
+unit_free_by taken units c class busy = all_below (λ b. ltb (taken class (c + b)) units) busy
 
 abbrev pub readable_by : List Status → Source → Bool
 readable_by status (constant z) = true
@@ -44,7 +40,7 @@ abbrev pub verdict : Bool → Bool → Bool → Bool → Bool → Option Questio
 verdict unit landed iteration in_cells free =
     cond unit (cond landed (cond iteration (cond in_cells (cond free None (Some ResultFree)) (Some CellInMemory)) (Some IterationRuns)) (Some OperandsLanded)) (Some UnitFree)
 
-abbrev pub verdict_by : List Status → List ℕ → (ℕ → ℕ) → ℕ → ℕ → ℕ → ℕ → Slot → Option Question
+abbrev pub verdict_by : List Status → (ℕ → ℕ → ℕ) → (ℕ → ℕ) → ℕ → ℕ → ℕ → ℕ → Slot → Option Question
 verdict_by status taken units trips cells p c slot =
     verdict (unit_free_by taken (units slot.class) c slot.class slot.busy) (landed_by status slot) (iteration_runs p trips slot)
     (cell_by cells (p - slot.stage) slot) (free_by status slot)

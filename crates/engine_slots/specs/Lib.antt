@@ -1,2 +1,3 @@
+pub mod Boards
 pub mod Slots
 pub mod Rows

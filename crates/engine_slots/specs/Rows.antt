@@ -1,5 +1,6 @@
 -- The rows of the code as the machine sees them.
-use Rattle.std.specs.Prelude.{ℕ, List, Some, None, Option, slice_index}
+use Rattle.std.specs.Prelude.{ℕ, List, Some, None, Option, Ok, Err, Result, slice_index}
+use Rattle.model.specs.declared.Question.{Question}
 use Rattle.model.specs.declared.Timing.{Timing}
 use Rattle.model.specs.Issues.{Slot}
 use Rattle.model.specs.Driving.{Examination, passed, failed}
@@ -14,6 +15,10 @@ slot_at resolve timings issued p x = turned (slot_in resolve timings p) (issued 
 abbrev pub units_of : List ℕ → ℕ → ℕ
 units_of units u = slice_index units u
 
-abbrev pub answered : Option Denial → Examination
-answered None = passed
-answered (Some d) = failed d.question d.slot
+abbrev pub question_answered : Option Question → Result (Unit {0}) Question
+question_answered None = Ok tt
+question_answered (Some q) = Err q
+
+abbrev pub answered : Result (Unit {0}) Denial → Examination
+answered (Ok u) = passed
+answered (Err d) = failed d.question d.slot

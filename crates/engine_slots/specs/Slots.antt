@@ -4,17 +4,17 @@ use Rattle.model.specs.declared.Timing.{Timing}
 use Rattle.model.specs.Loop as loops
 use Rattle.model.specs.Limits.{timing}
 use Rattle.model.specs.Issues as issues
-use Rattle.code.specs.declared.issue.Source.{Source}
-use Rattle.code.specs.declared.issue.Source.TheVariants.{Literal, Register}
+use Rattle.engine_slots.specs.declared.slot.Resolved.{Resolved}
+use Rattle.engine_slots.specs.declared.slot.Resolved.TheVariants.{Literal, Register}
 use Rattle.operations.specs.declared.operation.Operation.{Operation}
 use Rattle.operations.specs.Seen.{seen, EachOwn}
 use Rattle.engine_slots.specs.declared.slot.Slot.{Slot}
 
-abbrev pub source_of : Source → issues.Source
+abbrev pub source_of : Resolved → issues.Source
 source_of (Literal z) = issues.constant z
 source_of (Register r) = issues.register r
 
-abbrev pub operation_of : Operation Source → loops.Operation issues.Source
+abbrev pub operation_of : Operation Resolved → loops.Operation issues.Source
 operation_of o = seen source_of o
 
 abbrev pub slot_of : Slot → issues.Slot
@@ -28,11 +28,11 @@ slot_of s = record {
 }
 
 -- A source in a file of so many registers.
-abbrev pub SourceWithin : ℕ → Source → Type 0
+abbrev pub SourceWithin : ℕ → Resolved → Type 0
 SourceWithin file (Literal z) = Unit {0}
 SourceWithin file (Register r) = r < file
 
-abbrev pub OperationWithin : ℕ → Operation Source → Type 0
+abbrev pub OperationWithin : ℕ → Operation Resolved → Type 0
 OperationWithin file o = EachOwn (SourceWithin file) o
 
 -- What the machine's tables can follow: eight classes, and eight cycles ahead.

@@ -2,7 +2,13 @@
 #![tactic(auto)]
 
 pub mod asking;
+pub mod board;
 pub mod examining;
+pub mod held;
+mod names;
+pub mod program;
+mod shown;
 pub mod slot;
 pub mod slots;
+pub mod statuses;
 pub mod units;

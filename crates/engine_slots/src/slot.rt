@@ -1,10 +1,17 @@
 // A slot as it issues: the registers are resolved, and its timing is known.
-use code::issue::Operation;
 use model::{Question, Timing};
+use operations::Operation;
+
+// A number that stands in the code, or a register.
+#[derive(Clone, Copy)]
+pub enum Resolved {
+    Literal(i32),
+    Register(usize),
+}
 
 #[derive(Clone, Copy)]
 pub struct Slot {
-    pub operation: Operation,
+    pub operation: Operation<Resolved>,
     pub stage: usize,
     pub target: usize,
     pub timing: Timing,

@@ -1,6 +1,6 @@
 -- One register more lands.
-use Rattle.std.proofs.Common.{◌≡◌, ℕ, ◌+◌, ◌%◌, ◌<◌, Bool, true, false, cond, ◌&&◌, eqb, ◌⊎◌, List, length, get_or, set, sym, refl, ◌∙◌, subst, inl, inr, arith}
-use Rattle.std.proofs.lemmas.List.{get_or-set_other}
+use Rattle.std.proofs.Common.{◌≡◌, ℕ, ◌+◌, ◌%◌, ◌<◌, Bool, true, false, cond, ◌&&◌, eqb, ◌⊎◌, List, length, get_or, sym, refl, ap, ◌∙◌, subst, inl, inr, arith}
+use Rattle.std.proofs.lemmas.List.Elements.{All-contains}
 use Rattle.std.proofs.lemmas.Bool.{cases_eq, cases_Bool, and_parts, eqb-true, eqb-false}
 use Rattle.model.specs.declared.Status.{Status}
 use Rattle.model.specs.declared.Status.TheVariants.{Never, Waits, Landed}
@@ -80,11 +80,12 @@ module _ {V : Type 0} (c : ℕ) (waiting : List (Waiting V)) (status : List Stat
         let was = awaited_before (get_or status q Never) (eqb (waiting_file d waiting q).due c) (sym waits ∙ done.0) in
         (was.0, eqb-false _ _ was.1)
 
-  -- The lists are right for the next cycle: this cycle's is empty, and what is due later is not in it.
-  module _ (file : ℕ) (dues counts : List ℕ) (status' : List Status) (values' : List V) (d : V) (counts_long : length counts ≡ 8)
-      (pending : Pending file c (λ r. get_or status r Never) (waiting_file d waiting) dues counts) (all : (r : ℕ) → Done c waiting status values status' values' d r) where
-    pub next_pending : Pending file (c + 1) (λ r. get_or status' r Never) (waiting_file d waiting) dues (set counts (c % 8) 0)
-    next_pending r waits =
+  -- The lists are right for the next cycle: what is due later is not in this cycle's.
+  module _ (file : ℕ) (lists : ℕ → List ℕ) (status' : List Status) (values' : List V) (d : V)
+      (pending : Pending file c (λ r. get_or status r Never) (waiting_file d waiting) lists) where
+    pub next_pending : (lists' : ℕ → List ℕ) → ((x : ℕ) → (x ≡ c % 8 → ⊥) → lists' x ≡ lists x) → ((r : ℕ) → Done c waiting status values status' values' d r) →
+        Pending file (c + 1) (λ r. get_or status' r Never) (waiting_file d waiting) lists'
+    next_pending lists' others all r waits =
         let was = still_awaits status' values' d r (all r) waits in
         let old = pending r was.0 in
         record {
@@ -93,19 +94,17 @@ module _ {V : Type 0} (c : ℕ) (waiting : List (Waiting V)) (status : List Stat
           listed = λ h.
               let soon : (waiting_file d waiting r).due < c + 8 = old.soon (omega arith) in
               let apart : (waiting_file d waiting r).due % 8 ≡ c % 8 → ⊥ = λ e. omega arith in
-              rw (get_or-set_other counts (c % 8) ((waiting_file d waiting r).due % 8) 0 0 apart) (old.listed (omega arith));
+              rw (others ((waiting_file d waiting r).due % 8) apart) (old.listed (omega arith));
         }
 
-  module _ (file : ℕ) (dues counts : List ℕ) (status' : List Status) (values' : List V) (d : V)
-      (pending : Pending file c (λ r. get_or status r Never) (waiting_file d waiting) dues counts) where
-    pub listed_all : (count : ℕ) → count ≡ get_or counts (c % 8) 0 → count < 32 → LandsListed c waiting status values dues count status' values' →
+    pub listed_all : (list : List ℕ) → list ≡ lists (c % 8) → length list < 32 → LandsListed c waiting status values list status' values' →
         (r : ℕ) → Done c waiting status values status' values' d r
-    listed_all count is few lands r =
+    listed_all list is few lands r =
         done_or_due status' values' d r ((lands d).0 r) (λ waits due.
-        let listed : Listed dues counts (c % 8) r = subst (λ x. Listed dues counts (x % 8) r) due ((pending r waits).listed (omega arith)) in
+        let listed : Listed lists (c % 8) r = subst (λ x. Listed lists (x % 8) r) due ((pending r waits).listed (omega arith)) in
         elim listed [
-          | inl full ↦ absurd (omega arith)
-          | inr at ↦ subst (λ x. Done c waiting status values status' values' d x) at.1.1 ((lands d).1 at.0 (omega (arith, at.1.0)))
+          | inl full ↦ absurd (omega (arith, ap length is))
+          | inr at ↦ All-contains (Done c waiting status values status' values' d) list r (lands d).1 (rw is at)
         ])
 
     pub below_all : LandsBelow c waiting status values file status' values' → (r : ℕ) → Done c waiting status values status' values' d r

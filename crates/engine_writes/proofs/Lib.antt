@@ -1,2 +1,3 @@
-mod Landings
 mod Issued
+mod Landings
+mod Lists

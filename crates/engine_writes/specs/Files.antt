@@ -1,10 +1,11 @@
 -- The lent files as the definitions have them; d stands behind their ends.
-use Rattle.std.specs.Prelude.{◌≡◌, ℕ, ◌+◌, ◌%◌, ◌<◌, Bool, cond, ◌&&◌, ◌⊎◌, List, get_or, ◌==◌, ◌≢◌, slice_index, slice_index_or}
+use Rattle.std.specs.Prelude.{◌≡◌, ℕ, ◌+◌, ◌<◌, Bool, cond, ◌&&◌, ◌⊎◌, List, get_or, ◌==◌, ◌≢◌, slice_index_or}
+use Rattle.std.specs.List.{All}
 use Rattle.model.specs.declared.Status.{Status}
 use Rattle.model.specs.declared.Status.TheVariants.{Never, Landed}
 use Rattle.model.specs.Driving as driving
 use Rattle.model.specs.Driving.{awaits}
-use Rattle.engine_laws.specs.Dues.{due_place, Pending}
+use Rattle.engine_laws.specs.Dues.{Pending}
 use Rattle.engine_writes.specs.declared.waiting.Waiting.{Waiting}
 
 abbrev pub entry_of : {V : Type 0} → Waiting V → driving.Waiting V
@@ -38,19 +39,14 @@ module _ {V : Type 0} (c : ℕ) (waiting : List (Waiting V)) (status : List Stat
   abbrev pub Between : List Status → List V → V → Type 0
   Between status' values' d = (r : ℕ) → Done status' values' d r ⊎ Same status' values' d r
 
-  abbrev pub LandsListed : List ℕ → ℕ → List Status → List V → Type 0
-  LandsListed dues count status' values' =
-      (d : V) → Between status' values' d × ((i : ℕ) → i < count → Done status' values' d (slice_index dues (due_place (c % 8) i)))
+  abbrev pub LandsListed : List ℕ → List Status → List V → Type 0
+  LandsListed list status' values' = (d : V) → Between status' values' d × All (Done status' values' d) list
 
   abbrev pub LandsBelow : ℕ → List Status → List V → Type 0
   LandsBelow file status' values' = (d : V) → Between status' values' d × ((r : ℕ) → r < file → Done status' values' d r)
 
   -- All that are due, if the lists are right; and they are right again for the next cycle.
-  abbrev pub LandsAll : ℕ → List ℕ → List ℕ → List Status → List V → List ℕ → Type 0
-  LandsAll file dues counts status' values' counts' =
-      (d : V) → Pending file c (λ r. get_or status r Never) (waiting_file d waiting) dues counts →
-      ((r : ℕ) → Done status' values' d r) × Pending file (c + 1) (λ r. get_or status' r Never) (waiting_file d waiting) dues counts'
-
--- Each register of a list of registers is one of so many.
-abbrev pub Registers : List ℕ → ℕ → Type 0
-Registers dues bound = (i : ℕ) → slice_index dues i < bound
+  abbrev pub LandsAll : ℕ → (ℕ → List ℕ) → List Status → List V → (ℕ → List ℕ) → Type 0
+  LandsAll file lists status' values' lists' =
+      (d : V) → Pending file c (λ r. get_or status r Never) (waiting_file d waiting) lists →
+      ((r : ℕ) → Done status' values' d r) × Pending file (c + 1) (λ r. get_or status' r Never) (waiting_file d waiting) lists'

@@ -1,49 +1,47 @@
 // Due writes land.
 ghost use Rattle.std.specs.Prelude.{◌≡◌, ℕ, ◌<◌, ◌≤◌, length};
-ghost use Rattle.engine_writes.specs.Files.{LandsOne, LandsListed, LandsBelow, LandsAll, Registers};
+ghost use Rattle.std.specs.List.{All};
+ghost use Rattle.engine_laws.specs.Dues.{Registers};
+ghost use Rattle.engine_writes.specs.Files.{LandsOne, LandsListed, LandsBelow, LandsAll};
+ghost use Rattle.engine_writes.specs.Lists.{lists_of};
 
-use crate::dues::{LIST, LISTS};
+use crate::dues::Dues;
 use crate::waiting::Waiting;
-use engine_slots::asking::REGISTERS;
-use engine_slots::units::AHEAD;
-use model::Status;
+use engine_slots::statuses::Statuses;
 
 // Lands the write to a register, if it is due.
 fn land_one<V: Copy + Drop>(
     cycle: usize,
     r: usize,
     waiting: &[Waiting<V>],
-    status: &mut [Status; REGISTERS],
+    statuses: &mut Statuses,
     values: &mut [V],
 )
     requires { (r < 256) × ((r < length waiting.now) × (r < length values.old)) }
-    ensures { LandsOne cycle waiting.now status.old values.old r status.new values.new }
+    ensures { LandsOne cycle waiting.now statuses.old.status values.old r statuses.new.status values.new }
 {
-    if let Status::Waits = status[r] {
+    if statuses.does_await(r) {
         let entry = waiting[r];
         if entry.due == cycle {
             values[r] = entry.value;
-            status[r] = Status::Landed;
+            statuses.land(r);
         }
     }
 }
 
-// Lands the due writes to the registers of this cycle's list.
+// Lands the due writes to the registers of a list.
 fn land_listed<V: Copy + Drop>(
     cycle: usize,
-    dues: &[usize; LISTS],
-    count: usize,
+    list: &[usize],
     waiting: &[Waiting<V>],
-    status: &mut [Status; REGISTERS],
+    statuses: &mut Statuses,
     values: &mut [V],
 )
-    requires few { count ≤ 32 }
-    requires kept { (Registers dues.now 256) × ((Registers dues.now (length waiting.now)) × (Registers dues.now (length values.old))) }
-    ensures { LandsListed cycle waiting.now status.old values.old dues.now count status.new values.new }
+    requires { All (λ r. (r < 256) × ((r < length waiting.now) × (r < length values.old))) list.now }
+    ensures { LandsListed cycle waiting.now statuses.old.status values.old list.now statuses.new.status values.new }
 {
-    let first = cycle % AHEAD * LIST;
-    for i in 0..count {
-        land_one(cycle, dues[first + i], waiting, status, values);
+    for r in list {
+        land_one(cycle, *r, waiting, statuses, values);
     }
 }
 
@@ -52,14 +50,14 @@ fn land_each<V: Copy + Drop>(
     cycle: usize,
     file: usize,
     waiting: &[Waiting<V>],
-    status: &mut [Status; REGISTERS],
+    statuses: &mut Statuses,
     values: &mut [V],
 )
     requires { (file ≤ 256) × ((file ≤ length waiting.now) × (file ≤ length values.old)) }
-    ensures { LandsBelow cycle waiting.now status.old values.old file status.new values.new }
+    ensures { LandsBelow cycle waiting.now statuses.old.status values.old file statuses.new.status values.new }
 {
     for r in 0..file {
-        land_one(cycle, r, waiting, status, values);
+        land_one(cycle, r, waiting, statuses, values);
     }
 }
 
@@ -67,21 +65,19 @@ fn land_each<V: Copy + Drop>(
 pub fn land<V: Copy + Drop>(
     cycle: usize,
     file: usize,
-    dues: &[usize; LISTS],
-    counts: &mut [usize; AHEAD],
+    dues: &mut Dues,
     waiting: &[Waiting<V>],
-    status: &mut [Status; REGISTERS],
+    statuses: &mut Statuses,
     values: &mut [V],
 )
     requires fits { (file ≤ 256) × ((file ≤ length waiting.now) × (file ≤ length values.old)) }
-    requires kept { Registers dues.now file }
-    ensures { LandsAll cycle waiting.now status.old values.old file dues.now counts.old status.new values.new counts.new }
+    requires kept { Registers (lists_of dues.old) file }
+    ensures lands { LandsAll cycle waiting.now statuses.old.status values.old file (lists_of dues.old) statuses.new.status values.new (lists_of dues.new) }
+    ensures kept { Registers (lists_of dues.new) file }
 {
-    let count = counts[cycle % AHEAD];
-    if count < LIST {
-        land_listed(cycle, dues, count, waiting, status, values);
-    } else {
-        land_each(cycle, file, waiting, status, values);
+    match dues.listed(cycle) {
+        Some(list) => land_listed(cycle, list, waiting, statuses, values),
+        None => land_each(cycle, file, waiting, statuses, values),
     }
-    counts[cycle % AHEAD] = 0;
+    dues.clear(cycle);
 }

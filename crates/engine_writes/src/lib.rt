@@ -4,5 +4,6 @@
 pub mod dues;
 pub mod issuing;
 pub mod landing;
+pub mod operands;
 pub mod reading;
 pub mod waiting;

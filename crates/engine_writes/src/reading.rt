@@ -1,27 +1,17 @@
 // What a slot loads, computes or stores.
-ghost use Rattle.std.specs.Prelude.{◌≡◌, ℕ, ◌-◌, ◌<◌, ◌≤◌, length, slice_index_or};
+ghost use Rattle.std.specs.Prelude.{◌≡◌, ℕ, length, slice_index_or};
 ghost use Rattle.model.specs.Loop.{cell as cell_of};
 ghost use Rattle.model.specs.Plain.{nought, evaluate as evaluated};
 ghost use Rattle.model.specs.Driving.{source_value};
 ghost use Rattle.engine_slots.specs.Slots.{source_of, operation_of, SourceWithin, OperationWithin};
 ghost use Rattle.engine_writes.specs.Files.{value_file};
 
-use code::issue::{Operation, Source};
+use crate::operands::Operands;
+use engine_slots::slot::Resolved;
 use model::Operator;
+use operations::{Cell, Operation};
 use reach::reaching::find_cell;
-use operations::Cell;
 use values::domain::Domain;
-
-// What an operand is worth.
-pub fn read_source<D: Domain>(domain: &D, values: &[D::Value], source: Source) -> D::Value
-    requires { SourceWithin (length values.now) source }
-    ensures { result ≡ source_value D.operations (value_file (nought D.operations) values.now) (source_of source) }
-{
-    match source {
-        Source::Literal(z) => domain.literal(z),
-        Source::Register(r) => values[r],
-    }
-}
 
 pub fn apply<D: Domain>(domain: &D, operator: Operator, a: D::Value, b: D::Value) -> D::Value
     ensures { result ≡ D.operations.apply operator a b }
@@ -43,24 +33,35 @@ pub fn load<D: Domain>(domain: &D, memory: &[D::Value], cell: Cell, iteration: u
     }
 }
 
-pub fn evaluate<D: Domain>(
-    domain: &D,
-    memory: &[D::Value],
-    values: &[D::Value],
-    operation: Operation,
-    iteration: usize,
-) -> D::Value
-    requires { OperationWithin (length values.now) operation }
-    ensures { result ≡ evaluated D.operations (source_value D.operations (value_file (nought D.operations) values.now)) (operation_of operation) iteration memory.now }
-{
-    match operation {
-        Operation::Load(cell) => load(domain, memory, cell, iteration),
-        Operation::Store(value, _) => read_source(domain, values, value),
-        Operation::Binary(operator, left, right) => {
-            let a = read_source(domain, values, left);
-            let b = read_source(domain, values, right);
-            apply(domain, operator, a, b)
+impl<D: Domain> Operands<'_, D> {
+    // What an operand is worth.
+    pub fn read(&self, source: Resolved) -> D::Value
+        requires { SourceWithin (length self.now.values.now) source }
+        ensures { result ≡ source_value D.operations (value_file (nought D.operations) self.now.values.now) (source_of source) }
+    {
+        match source {
+            Resolved::Literal(z) => self.domain.literal(z),
+            Resolved::Register(r) => self.values[r],
         }
-        Operation::Move(value) => read_source(domain, values, value),
+    }
+
+    pub fn evaluate(
+        &self,
+        memory: &[D::Value],
+        operation: Operation<Resolved>,
+        iteration: usize,
+    ) -> D::Value
+        requires { OperationWithin (length self.now.values.now) operation }
+        ensures { result ≡ evaluated D.operations (source_value D.operations (value_file (nought D.operations) self.now.values.now)) (operation_of operation) iteration memory.now }
+    {
+        match operation {
+            Operation::Load(cell) => load(self.domain, memory, cell, iteration),
+            Operation::Store(value, _) | Operation::Move(value) => self.read(value),
+            Operation::Binary(operator, left, right) => {
+                let a = self.read(left);
+                let b = self.read(right);
+                apply(self.domain, operator, a, b)
+            }
+        }
     }
 }

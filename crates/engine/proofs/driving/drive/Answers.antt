@@ -1,4 +1,4 @@
-use Rattle.std.proofs.Common.{◌≡◌, ◌*◌, length, Ok, Err, sym, ap, ◌∙◌}
+use Rattle.std.proofs.Common.{◌≡◌, ◌*◌, length, Ok, Err, sym, ap, ◌∙◌, mul-zero}
 use Rattle.std.proofs.lemmas.Result.{err_from_is_err_and}
 use Rattle.model.specs.Driving.{run}
 use Rattle.model.specs.Codes.{form_of}
@@ -18,7 +18,8 @@ run_cycles-requires g c =
     ap (λ f. begins timings f values waiting cycles) (sym c.file.ensures) ∙ sym c.begin.ensures.is ∙ c.in_ok-cycles.was in
     let all = begun timings file values waiting cycles c.in_ok-cycles.cycles begins_so in
     record {
-      held = (c.in_ok-cycles.ensures.held, (all.dues_fit, all.cycles_are));
+      soon = all.dues_fit;
+      passes = λ none. all.cycles_are ∙ ap (λ i. c.args.run.passes * i) none ∙ mul-zero c.args.run.passes;
       fits = (all.values_fit, all.waiting_fit);
     }
 

@@ -14,8 +14,8 @@ loop-place-preserved g c =
     let p = c.args.row.pass in
     let end = c.args.row.end in
     let at = c.loop-place.place in
-    let values = c.args.values.now in
-    let f = slot_at (g.S.Scheme.meaning c.args.scheme.now).resolve c.args.timings.now (g.C.Code.issued c.args.code.now) p in
+    let values = c.args.operands.now.values.now in
+    let f = slot_at (g.S.Scheme.meaning c.args.program.now.scheme.now).resolve c.args.program.now.held.hardware.now.timings (g.C.Code.issued c.args.program.now.code.now) p in
     let slots = slots_from f end c.args.row.first in
     elim c.match-fetch.branch [
       | in-Some w ↦
@@ -32,8 +32,8 @@ returns g c =
     let dom = g.D.Domain.operations in
     let p = c.args.row.pass in
     let end = c.args.row.end in
-    let values = c.args.values.now in
-    let f = slot_at (g.S.Scheme.meaning c.args.scheme.now).resolve c.args.timings.now (g.C.Code.issued c.args.code.now) p in
+    let values = c.args.operands.now.values.now in
+    let f = slot_at (g.S.Scheme.meaning c.args.program.now.scheme.now).resolve c.args.program.now.held.hardware.now.timings (g.C.Code.issued c.args.program.now.code.now) p in
     let slots = slots_from f end c.args.row.first in
     stored_all dom values p slots _ _ (subst (λ s. StoredSoFar dom values p slots s c.args.memory.now c.loop-place.memory)
     (gathered_end f c.loop-place.place end c.loop-place-test.false) c.loop-place.invariant)

@@ -4,15 +4,15 @@ use Rattle.engine_writes.proofs.Landings.{done_here, done_still, between_still, 
 use Rattle.engine_writes.proofs.landing.land_each.Goals as goal
 
 pub loop-r-init : goal.loop-r-init
-loop-r-init g c = λ d. (between_none c.args.cycle c.args.waiting.now c.args.status.now c.args.values.now d, λ r h. absurd (omega arith))
+loop-r-init g c = λ d. (between_none c.args.cycle c.args.waiting.now c.args.statuses.now.status c.args.values.now d, λ r h. absurd (omega arith))
 
 pub loop-r-preserved : goal.loop-r-preserved
 loop-r-preserved g c = λ d.
     let before = c.loop-r.invariant d in (
-      between_still c.args.cycle c.args.waiting.now c.args.status.now c.args.values.now _ _ _ _ c.loop-r.r d c.land_one.ensures before.0,
+      between_still c.args.cycle c.args.waiting.now c.args.statuses.now.status c.args.values.now _ _ _ _ c.loop-r.r d c.land_one.ensures before.0,
       λ r h. elim (cases_eq r c.loop-r.r) [
-        | inl e ↦ rw e (done_here c.args.cycle c.args.waiting.now c.args.status.now c.args.values.now _ _ _ _ c.loop-r.r d c.land_one.ensures before.0)
-        | inr z ↦ done_still c.args.cycle c.args.waiting.now c.args.status.now c.args.values.now _ _ _ _ c.loop-r.r d c.land_one.ensures before.0 r (before.1 r (omega arith))
+        | inl e ↦ rw e (done_here c.args.cycle c.args.waiting.now c.args.statuses.now.status c.args.values.now _ _ _ _ c.loop-r.r d c.land_one.ensures before.0)
+        | inr z ↦ done_still c.args.cycle c.args.waiting.now c.args.statuses.now.status c.args.values.now _ _ _ _ c.loop-r.r d c.land_one.ensures before.0 r (before.1 r (omega arith))
       ],
     )
 
