@@ -1,6 +1,6 @@
 -- The first operation that comes again along a walk.
-use Rattle.std.proofs.Common.{◌≡◌, ℕ, zero, suc, ◌+◌, ◌-◌, ◌<◌, ◌≤◌, cond, eqb, List, [], ◌∷◌, ◌++◌, length, get_or, take, drop, set, sym, refl, ap, ◌∙◌, subst, inl, inr, add-one, arith}
-use Rattle.std.proofs.lemmas.List.{take-append-drop, length-take-le, length-drop, get_or-set_same, get_or-set_other, get_or-take}
+use Rattle.std.proofs.Common.{◌≡◌, ℕ, zero, suc, ◌+◌, ◌-◌, ◌<◌, ◌≤◌, cond, eqb, List, [], ◌∷◌, ◌++◌, length, get_or, take, drop, sym, refl, ap, ◌∙◌, subst, inl, inr, arith}
+use Rattle.std.proofs.lemmas.List.{take-append-drop, length-take-le, length-drop}
 use Rattle.std.proofs.ByRecursion.{All-get_or}
 use Rattle.std.proofs.lemmas.Bool.{cases_eq, eq-eqb, ne_eqb}
 use Rattle.model.specs.declared.Edge.{Edge}
@@ -9,7 +9,7 @@ use Rattle.model.specs.Walks.{edge, Walk, froms, Absent, Distinct, Within}
 use Rattle.graph_laws.proofs.Total.{total_le, total_same, total_zero, total_swap}
 use Rattle.graph_laws.proofs.Pigeons.{total_hit, total_ones}
 use Rattle.graph_laws.proofs.Cut.{Cut}
-use Rattle.graph_laws.specs.Trails.{standing, NewBefore, Repeats, Passed}
+use Rattle.graph_laws.specs.Trails.{standing, NewBefore, Repeats}
 
 -- m different numbers below n: m is at most n
 module _ (f : ℕ → ℕ) where
@@ -108,58 +108,3 @@ module _ (es : List Edge) where
         simple = distinct_by (standing es u xs i) (standing es u xs i) (take (j - i) (drop i xs)) around (λ a b ab h e.
             r.new (i + a) (i + b) (omega arith) (omega (arith, long)) (sym (at a (omega (arith, long))) ∙ e ∙ at b (omega (arith, long))));
       }
-
--- The steps of the search.
-module _ (es : List Edge) (u : ℕ) (xs seen : List ℕ) (j : ℕ) (p : Passed es u xs seen j) where
-  pub one_new : get_or seen (standing es u xs j) 0 ≡ 0 → NewBefore es u xs (j + 1)
-  one_new z a b ab h e = elim (cases_eq b j) [
-    | inl s ↦ p.unseen (standing es u xs j) z a (omega arith) (e ∙ ap (standing es u xs) s)
-    | inr n ↦ p.new a b ab (omega arith) e
-  ]
-
-  pub passed : standing es u xs j < length seen → get_or seen (standing es u xs j) 0 ≡ 0 → Passed es u xs (set seen (standing es u xs j) (j + 1)) (j + 1)
-  passed room z = record {
-    unseen = λ v none a l e. elim (cases_eq v (standing es u xs j)) [
-      | inl s ↦ omega (arith, none, ap (λ x. get_or (set seen (standing es u xs j) (j + 1)) x 0) s, get_or-set_same seen (standing es u xs j) (j + 1) 0 room)
-      | inr n ↦ elim (cases_eq a j) [
-        | inl t ↦ n (sym e ∙ ap (standing es u xs) t)
-        | inr m ↦ p.unseen v (sym (get_or-set_other seen (standing es u xs j) v (j + 1) 0 n) ∙ none) a (omega arith) e
-      ]
-    ];
-    placed = λ v some. elim (cases_eq v (standing es u xs j)) [
-      | inl s ↦
-          let is : get_or (set seen (standing es u xs j) (j + 1)) v 0 ≡ j + 1 = ap (λ x. get_or (set seen (standing es u xs j) (j + 1)) x 0) s ∙ get_or-set_same seen (standing es u xs j) (j + 1) 0 room in
-          let less : (j + 1) - 1 ≡ j = omega arith in
-          rw is (omega arith, ap (standing es u xs) less ∙ sym s)
-      | inr n ↦
-          let is : get_or (set seen (standing es u xs j) (j + 1)) v 0 ≡ get_or seen v 0 = get_or-set_other seen (standing es u xs j) v (j + 1) 0 n in
-          let old = p.placed v (rw is at some) in
-          rw is (omega (arith, old.0), old.1)
-    ];
-    new = one_new z;
-  }
-
--- At an operation that was not passed before, the walk goes on.
-pub record GoesOn (es : List Edge) (u j len count : ℕ) (path : List ℕ) : Type 0 where
-  pub more : j < len
-  pub edge_there : get_or path j 0 < length es
-  pub next : standing es u (take len path) (j + 1) ≡ (edge es (get_or path j 0)).to
-  pub inside : (edge es (get_or path j 0)).to < count
-
-pub walk_goes_on : (es : List Edge) (u v count len j at : ℕ) (path seen : List ℕ) → Within count es → u < count → count ≤ len → len ≤ length path →
-    Walk es u (take len path) v → Passed es u (take len path) seen j → at ≡ standing es u (take len path) j → get_or seen at 0 ≡ 0 → GoesOn es u j len count path
-walk_goes_on es u v count len j at path seen within first long room w p is new =
-    let xs : List ℕ = take len path in
-    let size : length (take len path) ≡ len = length-take-le len path room in
-    let fresh : get_or seen (standing es u (take len path) j) 0 ≡ 0 = rw is at new in
-    let few : j + 1 ≤ count = places (standing es u (take len path)) (j + 1) count (λ a _. standing_within es count within u v (take len path) first w a) (one_new es u (take len path) seen j p fresh) in
-    let more : j < len = omega arith in
-    let step = next_edge es u v (take len path) j w (omega arith) in
-    let same : get_or (take len path) j 0 ≡ get_or path j 0 = get_or-take len path j 0 more in
-    let next : standing es u (take len path) (j + 1) ≡ (edge es (get_or path j 0)).to = rw add-one (step.1 ∙ ap (λ x. (edge es x).to) same) in
-    record {
-      more = more;
-      edge_there = omega (arith, step.0);
-      next = next;
-      inside = omega (arith, standing_within es count within u v (take len path) first w (j + 1));
-    }

@@ -11,7 +11,6 @@ pub mod Turn
 pub mod Sequence
 pub mod Fits
 pub mod Steps
-pub mod Trail
 pub mod Again
 pub mod Whole
 pub mod Sums

@@ -1,5 +1,5 @@
 -- One more edge of a round.
-use Rattle.std.proofs.Common.{◌≡◌, ℕ, zero, suc, ◌+◌, ◌-◌, ◌*◌, ◌<◌, ◌≤◌, max, cond, eqb, List, [], ◌∷◌, ◌++◌, length, get_or, take, set, replicate, sym, refl, ap, ◌∙◌, subst, subst₂, inl, inr, mul-le-mul, add-one, arith}
+use Rattle.std.proofs.Common.{◌≡◌, ℕ, zero, suc, ◌+◌, ◌-◌, ◌*◌, ◌<◌, ◌≤◌, max, cond, eqb, List, [], ◌∷◌, ◌++◌, length, get_or, take, set, replicate, sym, refl, ap, ◌∙◌, subst, inl, inr, mul-le-mul, add-one, arith}
 use mathlib.Core.Path.{fun_ext}
 use Rattle.std.specs.List.{AllByRecursion}
 use Rattle.std.proofs.lemmas.List.{take_more, get_or-set_same, get_or-set_other}
@@ -13,7 +13,7 @@ use Rattle.graph_laws.proofs.Pigeons.{pigeons}
 use Rattle.graph_laws.proofs.Cut.{change_gives_circuit}
 use Rattle.graph_laws.proofs.Relaxed.{round_keeps, round_came, fixed_is_height}
 use Rattle.model.specs.Limits.{EdgeFits}
-use Rattle.graph_laws.specs.Trails.{value, Marked, Traced}
+use Rattle.graph_laws.specs.Trails.{value}
 
 pub fits_at : (n : ℕ) (es : List Edge) (i : ℕ) → AllByRecursion (EdgeFits n) es → i < length es → EdgeFits n (edge es i)
 fits_at n es i s l = All-get_or (EdgeFits n) es i _ l s
@@ -59,35 +59,6 @@ zeros zero u = refl
 zeros (suc n) zero = refl
 zeros (suc n) (suc u) = zeros n u
 
-pub unmarked : (es : List Edge) (k : ℕ) (h : ℕ → ℕ) (n u : ℕ) → Marked es k h h u (get_or (replicate n 0) u 0)
-unmarked es k h n u = rw (zeros n u) (record { same = λ _. refl; took = λ s. absurd (omega arith); rose = λ s. absurd (omega arith) })
-
--- The marks of a round, edge by edge.
-module _ (k i : ℕ) (es : List Edge) (old new marks : List ℕ) (l : i < length es)
-    (inv : (u : ℕ) → get_or new u 0 ≡ round k (take i es) (value old) u) (marked : (u : ℕ) → Marked es k (value old) (value new) u (get_or marks u 0)) where
-  pub mark_raises : (v : ℕ) → (edge es i).from < length new → (edge es i).from < length marks → v ≡ offer k (value old) (edge es i) → get_or new (edge es i).from 0 < v →
-      (u : ℕ) → Marked es k (value old) (value (set new (edge es i).from v)) u (get_or (set marks (edge es i).from (i + 1)) u 0)
-  mark_raises v room space is better u = elim (cases_eq u (edge es i).from) [
-    | inl e ↦
-        let here : get_or (set new (edge es i).from v) u 0 ≡ v = ap (λ x. get_or (set new (edge es i).from v) x 0) e ∙ get_or-set_same new (edge es i).from v 0 room in
-        let mark : get_or (set marks (edge es i).from (i + 1)) u 0 ≡ i + 1 = ap (λ x. get_or (set marks (edge es i).from (i + 1)) x 0) e ∙ get_or-set_same marks (edge es i).from (i + 1) 0 space in
-        let last : (i + 1) - 1 ≡ i = omega arith in
-        rw mark (record {
-          same = λ z. absurd (omega arith);
-          took = λ _. rw last (l, sym e, here ∙ is);
-          rose = λ _. omega (arith, here, ap (λ x. get_or new x 0) e, inv u, round_keeps k (value old) (take i es) u);
-        })
-    | inr n ↦
-        let here : get_or (set new (edge es i).from v) u 0 ≡ get_or new u 0 = get_or-set_other new (edge es i).from u v 0 n in
-        let mark : get_or (set marks (edge es i).from (i + 1)) u 0 ≡ get_or marks u 0 = get_or-set_other marks (edge es i).from u (i + 1) 0 n in
-        let m = marked u in
-        rw mark (record {
-          same = λ z. here ∙ m.same z;
-          took = λ s. let t = m.took s in (t.0, t.1, here ∙ t.2);
-          rose = λ s. omega (arith, here, m.rose s);
-        })
-  ]
-
 pub loss_fits : (d k : ℕ) → d ≤ 7 → k ≤ 256 → d * k ≤ 1792
 loss_fits d k hd hk = omega (arith, mul-le-mul hd hk)
 
@@ -97,20 +68,6 @@ module _ (k r : ℕ) (es : List Edge) (old new : List ℕ) (inv : (u : ℕ) → 
   pub one_more : (u : ℕ) → get_or new u 0 ≡ rounds k es (r + 1) u
   unfolding rounds
   one_more u = rw add-one (step u ∙ ap (λ h. round k es h u) (fun_ext inv))
-
-  pub row_traced : (marks : List ℕ) (rows : List (List ℕ)) → ((u : ℕ) → Marked es k (value old) (value new) u (get_or marks u 0)) → r < length rows → Traced es k r rows →
-      Traced es k (r + 1) (set rows r marks)
-  unfolding rounds
-  row_traced marks rows marked room before s l u = elim (cases_eq s r) [
-    | inl e ↦
-        let here : get_or (set rows r marks) s [] ≡ marks = ap (λ x. get_or (set rows r marks) x []) e ∙ get_or-set_same rows r marks [] room in
-        let old_is : value old ≡ rounds k es s = fun_ext inv ∙ ap (rounds k es) (sym e) in
-        let new_is : value new ≡ rounds k es (suc s) = fun_ext (λ v. step v ∙ ap (λ h. round k es h v) old_is) in
-        rw here (subst₂ (λ h g. Marked es k h g u (get_or marks u 0)) old_is new_is (marked u))
-    | inr n ↦
-        let here : get_or (set rows r marks) s [] ≡ get_or rows s [] = get_or-set_other rows r s marks [] n in
-        rw here (before s (omega arith) u)
-  ]
 
   pub settled : ((u : ℕ) → get_or new u 0 ≡ get_or old u 0) → NoneAbove es k × ((u : ℕ) → IsHeight es k u (value old u))
   unfolding rounds
