@@ -12,7 +12,7 @@ use Rattle.model.specs.Search.{Outcome, found}
 use Rattle.model.specs.Plan.{steps_of, succeeds, found_at}
 use Rattle.schedule_laws.specs.Ready.{heights}
 use Rattle.schedule_laws.proofs.Intervals.{succeeds_then, fails_deep, fails_refused, fails_failed}
-use Rattle.schedule_laws.proofs.Readiness.{positive, whole_short, roomy, none_above, few_steps, by_heights, lives_limits}
+use Rattle.schedule_laws.proofs.Readiness.{ready_later, whole_short, few_steps, by_heights, lives_limits}
 use Rattle.schedule_laws.proofs.Rest.{RestFound, search_rest}
 use Rattle.schedule_laws.proofs.Tables.{table_any}
 use Rattle.reservation.specs.Times.{times_of}
@@ -33,7 +33,7 @@ steps_ended : (t : Option TimeTable) (n : ℕ) → n ≡ steps_of (ended t n)
 steps_ended (Some t) n = refl
 steps_ended None n = refl
 
-module _ (p : Problem) (k : ℕ) (ready : ReadyAt p k) (below : k < latencies p.timings.now (length p.timings.now)) where
+module _ (p : Problem) (k : ℕ) (low : p.minimum.value ≤ k) (below : k < latencies p.timings.now (length p.timings.now)) where
   abbrev ops : Loop
   ops = operations_in p
 
@@ -46,6 +46,9 @@ module _ (p : Problem) (k : ℕ) (ready : ReadyAt p k) (below : k < latencies p.
   abbrev units : List ℕ
   units = p.units.now
 
+  ready : ReadyAt p k
+  ready = ready_later ops es us units p.minimum.value k p.ready low
+
   small : k ≤ 256
   small = omega (arith, whole_short ops es us units k ready, ap (latencies us) ready.each)
 
@@ -53,15 +56,15 @@ module _ (p : Problem) (k : ℕ) (ready : ReadyAt p k) (below : k < latencies p.
   inside = record {
     graph = subst (λ n. GraphFits n es) (sym ready.each) ready.graph;
     machine = ready.machine;
-    some = positive ops es us units k ready;
+    some = ready.positive;
     most = small;
   }
 
   -- there is a search
   no_error : (e : NoSearch) → SearchOf es us units k (Err e) → ⊥
   no_error Outside h = h inside
-  no_error Above h = omega (arith, none_above ops es us units k ready h.1.0 h.1.1, h.1.2)
-  no_error Narrow h = h.1 (subst (λ n. (j : ℕ) → j < n → (hardware us units).busy j ≤ k * (hardware us units).units ((hardware us units).class j)) (sym ready.each) (roomy ops es us units k ready))
+  no_error Above h = omega (arith, ready.none_above h.1.0 h.1.1, h.1.2)
+  no_error Narrow h = h.1 (subst (λ n. (j : ℕ) → j < n → (hardware us units).busy j ≤ k * (hardware us units).units ((hardware us units).class j)) (sym ready.each) ready.roomy)
 
   pub there_is : (r : Result OwnOutcome NoSearch) → SearchOf es us units k r → IsOk r
   there_is (Ok o) h = refl

@@ -1,5 +1,5 @@
 -- From the machine and the loop to lists, and back.
-use Rattle.std.proofs.Common.{◌≡◌, ℕ, true, List, length, Some, None, Option, Err, Ok, ok_or, sym, refl, ap, ◌∙◌, subst, subst₂, arith}
+use Rattle.std.proofs.Common.{◌≡◌, ℕ, true, List, length, Some, None, Option, Err, Ok, ok_or, sym, refl, ap, ◌∙◌, subst, subst₂}
 use Rattle.model.specs.declared.Edge.{Edge}
 use Rattle.model.specs.declared.Timing.{Timing}
 use Rattle.model.specs.Loop.{Loop, Hardware, WellFormed}
@@ -17,6 +17,7 @@ use Rattle.model.specs.Plan.{Plan, plan, IsPlan}
 use Rattle.text_laws.proofs.Formed.{well_formed, machine_fits}
 use Rattle.schedule_laws.specs.Alike.{IsPlanned}
 use Rattle.schedule_laws.specs.Ready.{Ready, heights}
+use Rattle.schedule_laws.proofs.Readiness.{ready_from}
 use Rattle.schedule_laws.proofs.Machines.{timings_count, units_count}
 use Rattle.schedule_laws.proofs.Intervals.{rounds_are_heights}
 use Rattle.bounds.specs.Answers.{evidence, Inside, MinimumOf}
@@ -59,15 +60,8 @@ module _ (m : Machine) (source : OwnLoop) (es : List Edge) (us : List Timing) (u
     minimum_is = subst (λ n. IsMinimum es (hardware us units) n (length units) min.value) each h.1
 
     pub is_ready : Ready ops es us units min.value
-    is_ready = record {
-      formed = subst₂ (λ x y. WellFormed ops (hardware x y)) (sym timings) (sym counts) (well_formed m ops sm source.sound);
-      each = each;
-      graph = graph_fits h.0;
-      machine = h.0.1;
-      lowest = min.value;
-      minimum = minimum_is;
-      above = omega arith;
-    }
+    is_ready =
+        ready_from ops es us units min.value (subst₂ (λ x y. WellFormed ops (hardware x y)) (sym timings) (sym counts) (well_formed m ops sm source.sound)) each (graph_fits h.0) h.0.1 minimum_is
 
     minimum_of : IsMinimum es hw (length ops) (length m.classes) min.value
     minimum_of =
@@ -92,15 +86,15 @@ module _ (m : Machine) (source : OwnLoop) (es : List Edge) (us : List Timing) (u
 
 -- with a minimum, what is chosen is the plan
 module _ (m : Machine) (p : Problem) (sm : sound_machine m ≡ true) (timings : p.timings.now ≡ timings_of m (operations_in p)) (counts : p.units.now ≡ units_of m)
-    (min : Minimum) (h : MinimumOf p.edges.now p.timings.now p.units.now (Ok min)) {S : Type 0} (meaning : S → Meaning) (place : S → ℕ → ℕ → ℕ) (before after : S) where
+    (h : MinimumOf p.edges.now p.timings.now p.units.now (Ok p.minimum)) {S : Type 0} (meaning : S → Meaning) (place : S → ℕ → ℕ → ℕ) (before after : S) where
   fits : GraphFits (length (operations_in p)) p.edges.now
   fits = graph_fits m p.source.now p.edges.now p.timings.now p.units.now sm timings counts h.0
 
-  pub planned_of : (r : Option Scheduled) → ChoiceOf meaning place p min before after r → ScheduleOf meaning place m (operations_in p) p.edges.now before after (ok_or r NotTaken)
+  pub planned_of : (r : Option Scheduled) → ChoiceOf meaning place p before after r → ScheduleOf meaning place m (operations_in p) p.edges.now before after (ok_or r NotTaken)
   planned_of None d = record {
     fits = fits;
-    lowest = min.value;
-    plan = plan_is m p.source.now p.edges.now p.timings.now p.units.now sm timings counts min h (meaning before).need (meaning before).file _ d.0;
+    lowest = p.minimum.value;
+    plan = plan_is m p.source.now p.edges.now p.timings.now p.units.now sm timings counts p.minimum h (meaning before).need (meaning before).file _ d.0;
     same = d.1;
   }
   planned_of (Some s) d = record {
@@ -108,10 +102,10 @@ module _ (m : Machine) (p : Problem) (sm : sound_machine m ≡ true) (timings : 
     plan = subst (λ x. IsPlanned (operations_in p) p.edges.now (hardware (timings_of m (operations_in p)) (units_of m)) (length m.classes) (meaning before).need (meaning before).file x.value (schedule_of s) s.steps) (sym d.0) (record {
       schedule = d.1.0;
       tells = d.1.1.0;
-      is = plan_is m p.source.now p.edges.now p.timings.now p.units.now sm timings counts min h (meaning before).need (meaning before).file _ d.1.1.1;
+      is = plan_is m p.source.now p.edges.now p.timings.now p.units.now sm timings counts p.minimum h (meaning before).need (meaning before).file _ d.1.1.1;
     });
     evidence = subst (λ x. IsEvidence p.edges.now (hardware (timings_of m (operations_in p)) (units_of m)) (length (operations_in p)) (length m.classes) x.value (evidence x.witness)) (sym d.0)
-        (evidence_of m p.source.now p.edges.now p.timings.now p.units.now sm timings counts min h);
+        (evidence_of m p.source.now p.edges.now p.timings.now p.units.now sm timings counts p.minimum h);
     fitted = subst₂ (λ x y. Fitted meaning place before after (lives_table (operations_in p) (hardware x y) (schedule_of s)) (Some s.choice.turns)) timings counts d.1.1.2.fitted;
     stages = d.1.1.2.stages;
   }

@@ -15,7 +15,6 @@ use Rattle.schedule_laws.proofs.Intervals.{from_here, plan_found, plan_next, pla
 use Rattle.schedule_laws.proofs.Readiness.{whole_short, sequence_is, sequence_limits}
 use Rattle.timing.specs.declared.Schedule.{Schedule as OwnSchedule}
 use Rattle.timing.specs.Seen.{schedule_seen}
-use Rattle.bounds.specs.declared.answer.Minimum.{Minimum}
 use Rattle.lives.specs.Schedules.{latencies, Short, SequenceOf}
 use Rattle.schedule.specs.declared.choice.Choice.{Choice}
 use Rattle.schedule.specs.declared.choice.Attempt.{Attempt}
@@ -29,7 +28,7 @@ Reached meaning place p lowest entry k steps =
     from_here (operations_in p) p.edges.now (machine_in p) (heights p.edges.now (length (operations_in p))) (meaning entry).need (meaning entry).file k steps ≡
     plan_of meaning place p lowest entry
 
-module _ (p : Problem) (min : Minimum) (ready : ReadyAt p min.value) where
+module _ (p : Problem) where
   abbrev ops : Loop
   ops = operations_in p
 
@@ -42,6 +41,9 @@ module _ (p : Problem) (min : Minimum) (ready : ReadyAt p min.value) where
   abbrev hw : Hardware
   hw = machine_in p
 
+  ready : ReadyAt p p.minimum.value
+  ready = p.ready
+
   abbrev high : ℕ → ℕ → ℕ
   high = heights es (length ops)
 
@@ -49,29 +51,29 @@ module _ (p : Problem) (min : Minimum) (ready : ReadyAt p min.value) where
   whole_is = ap (latencies us) ready.each
 
   pub is_short : Short us
-  is_short = (omega (arith, ready.each, ready.formed.few), omega (arith, whole_is, whole_short ops es us p.units.now min.value ready))
+  is_short = (omega (arith, ready.each, ready.formed.few), omega (arith, whole_is, whole_short ops es us p.units.now p.minimum.value ready))
 
   module _ (s : OwnSchedule) (h : SequenceOf us (Some s)) where
     sequential_is : Tells (length ops) (schedule_seen s) (sequential ops hw)
-    sequential_is = sequence_is ops es us p.units.now min.value ready s.interval (λ j. get_or s.times j 0) h.1 h.2
+    sequential_is = sequence_is ops es us p.units.now p.minimum.value ready s.interval (λ j. get_or s.times j 0) h.1 h.2
 
     sequential_table : lives_in p (schedule_seen s) ≡ lives_in p (sequential ops hw)
     sequential_table = table_same ops (schedule_seen s) (sequential ops hw) hw sequential_is.alike
 
     pub sequential_limits : Limits (lives_in p (schedule_seen s))
-    sequential_limits = subst Limits (sym sequential_table) (sequence_limits ops es us p.units.now min.value ready)
+    sequential_limits = subst Limits (sym sequential_table) (sequence_limits ops es us p.units.now p.minimum.value ready)
 
     sequential_shallow : stages (schedule_seen s) (length ops) ≤ 8
     sequential_shallow =
         omega (arith, stages_same (schedule_seen s) (sequential ops hw) (length ops) sequential_is.alike, (sequential_stands ops hw ready.formed).1)
 
   module _ {S : Type 0} (meaning : S → Meaning) (place : S → ℕ → ℕ → ℕ) (entry cur after : S) (e : cur ≡ entry) (k steps : ℕ)
-      (reached : Reached meaning place p min.value entry k steps) where
+      (reached : Reached meaning place p p.minimum.value entry k steps) where
     module _ (a : Attempt) (below : k < latencies us (length us)) (d : AttemptOf meaning place p k cur after a) where
       at : AttemptOf meaning place p k entry after a
       at = subst (λ s. AttemptOf meaning place p k s after a) e d
 
-      pub reached_next : a.choice ≡ None → (after ≡ entry) × Reached meaning place p min.value entry (k + 1) (steps + a.steps)
+      pub reached_next : a.choice ≡ None → (after ≡ entry) × Reached meaning place p p.minimum.value entry (k + 1) (steps + a.steps)
       reached_next none =
           let came = subst (CameOf meaning place p k entry after) none at.came in (
             came.1,
@@ -79,7 +81,7 @@ module _ (p : Problem) (min : Minimum) (ready : ReadyAt p min.value) where
                 (sym (plan_next ops es hw high (meaning entry).need (meaning entry).file k steps (omega (arith, whole_is)) came.0) ∙ reached),
           )
 
-      pub reached_found : (c : Choice) → a.choice ≡ Some c → ChoiceOf meaning place p min entry after (Some (record { minimum = min; choice = c; steps = steps + a.steps }))
+      pub reached_found : (c : Choice) → a.choice ≡ Some c → ChoiceOf meaning place p entry after (Some (record { minimum = p.minimum; choice = c; steps = steps + a.steps }))
       reached_found c some =
           let came = subst (CameOf meaning place p k entry after) some at.came in (
             refl,
@@ -99,7 +101,7 @@ module _ (p : Problem) (min : Minimum) (ready : ReadyAt p min.value) where
       at_end : total hw.latency (length ops) ≤ k
       at_end = omega (arith, h.1, whole_is)
 
-      pub reached_none : OfferOf meaning place p s cur after None → ChoiceOf meaning place p min entry after None
+      pub reached_none : OfferOf meaning place p s cur after None → ChoiceOf meaning place p entry after None
       reached_none d = elim (subst (λ x. OfferOf meaning place p s x after None) e d) [
         | inl deep ↦ absurd (omega (arith, deep.0, sequential_shallow s h))
         | inr r ↦ (
@@ -111,7 +113,7 @@ module _ (p : Problem) (min : Minimum) (ready : ReadyAt p min.value) where
       ]
 
       pub reached_sequence : (c : Choice) → OfferOf meaning place p s cur after (Some c) →
-          ChoiceOf meaning place p min entry after (Some (record { minimum = min; choice = c; steps = steps }))
+          ChoiceOf meaning place p entry after (Some (record { minimum = p.minimum; choice = c; steps = steps }))
       reached_sequence c d =
           let at = subst (λ x. OfferOf meaning place p s x after (Some c)) e d in
           let within = subst (λ t. (meaning entry).need t ≤ (meaning entry).file) (ap (λ x. lives_in p (schedule_seen x)) at.0 ∙ sequential_table s h) at.2.fitted.within in (

@@ -8,7 +8,6 @@ use Rattle.schedule_laws.specs.Ready.{heights}
 use Rattle.registers.specs.Fits.{Fitted}
 use Rattle.timing.specs.declared.Schedule.{Schedule as OwnSchedule}
 use Rattle.timing.specs.Seen.{schedule_seen}
-use Rattle.bounds.specs.declared.answer.Minimum.{Minimum}
 use Rattle.schedule.specs.declared.answer.Scheduled.{Scheduled}
 use Rattle.schedule.specs.declared.choice.Choice.{Choice}
 use Rattle.schedule.specs.declared.choice.Attempt.{Attempt}
@@ -51,8 +50,8 @@ module _ {S : Type 0} (meaning : S → Meaning) (place : S → ℕ → ℕ → �
   plan_of lowest before =
       plan (operations_in p) p.edges.now (machine_in p) (heights p.edges.now (length (operations_in p))) (meaning before).need (meaning before).file lowest
 
-  abbrev pub ChoiceOf : Minimum → S → S → Option Scheduled → Type 0
-  ChoiceOf min before after (Some s) =
-      (s.minimum ≡ min) ×
-      ((w : Schedule) × (Tells (length (operations_in p)) (schedule_seen s.choice.schedule) w × (plan_of min.value before ≡ planned w s.steps) × Accepts before after s.choice))
-  ChoiceOf min before after None = (plan_of min.value before ≡ refused) × (after ≡ before)
+  abbrev pub ChoiceOf : S → S → Option Scheduled → Type 0
+  ChoiceOf before after (Some s) =
+      (s.minimum ≡ p.minimum) ×
+      ((w : Schedule) × (Tells (length (operations_in p)) (schedule_seen s.choice.schedule) w × (plan_of p.minimum.value before ≡ planned w s.steps) × Accepts before after s.choice))
+  ChoiceOf before after None = (plan_of p.minimum.value before ≡ refused) × (after ≡ before)

@@ -6,7 +6,7 @@ ghost use Rattle.model.specs.Schedule.{stages};
 ghost use Rattle.reservation.specs.Times.{times_of};
 ghost use Rattle.timing.specs.Seen.{schedule_seen};
 ghost use Rattle.lives.specs.Schedules.{latencies};
-ghost use Rattle.schedule.specs.Problems.{operations_in, lives_in, ReadyAt};
+ghost use Rattle.schedule.specs.Problems.{operations_in, lives_in};
 ghost use Rattle.schedule.specs.Choices.{OfferOf, AttemptOf};
 
 use crate::choice::{Attempt, Choice};
@@ -49,7 +49,7 @@ impl Problem<'_> {
 
     // Searches at an interval, and offers what is found.
     pub(crate) fn attempt<S: Scheme>(&self, scheme: &mut S, interval: usize) -> Attempt
-        requires ready { ReadyAt self.now interval }
+        requires low { self.now.minimum.value ≤ interval }
         requires below { interval < latencies self.now.timings.now (length self.now.timings.now) }
         ensures { AttemptOf S.meaning S.place self.now interval scheme.old scheme.new result }
     {

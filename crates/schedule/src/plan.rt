@@ -23,13 +23,16 @@ pub fn schedule_loop<S: Scheme>(
 {
     let timings = timings_of(machine, l);
     let units = units_of(machine);
+    let timings = timings.as_slice();
     let classes = machine.entries.classes.as_slice();
+    let units = &units[..classes.len()];
+    let minimum = minimum(edges, timings, units)?;
     let problem = Problem {
         source: l,
         edges,
-        timings: timings.as_slice(),
-        units: &units[..classes.len()],
+        timings,
+        units,
+        minimum,
     };
-    let minimum = minimum(edges, problem.timings, problem.units)?;
-    problem.choose(scheme, minimum).ok_or(NoSchedule::NotTaken)
+    problem.choose(scheme).ok_or(NoSchedule::NotTaken)
 }

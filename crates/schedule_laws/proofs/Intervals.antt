@@ -5,7 +5,7 @@ use Rattle.std.specs.List.{AllByRecursion}
 use Rattle.std.proofs.lemmas.Bool.{le-leb, lt-leb}
 use Rattle.model.specs.Loop.{Loop, Hardware, total}
 use Rattle.model.specs.declared.Edge.{Edge}
-use Rattle.model.specs.Minimum.{IsHeight}
+use Rattle.model.specs.Minimum.{NoneAbove, IsHeight}
 use Rattle.model.specs.Limits.{EdgeFits}
 use Rattle.model.specs.Relaxation.{rounds}
 use Rattle.model.specs.Schedule.{stages, sequential}
@@ -20,11 +20,15 @@ use Rattle.search_laws.proofs.Sound.{search_sound}
 use Rattle.search_laws.proofs.Plan.{short_edges, height_one, above_minimum, settled}
 use Rattle.schedule_laws.specs.Laws.{RoundsAreHeights}
 
-pub rounds_are_heights : RoundsAreHeights
-rounds_are_heights es hw n classes lowest k fits min h =
-    let are : (u : ℕ) → IsHeight es k u (rounds k es n u) =
-    (fixed_is_height es k n (settled es n k (all_within n es fits) (above_minimum es hw n classes lowest k min h))).1 in
+-- Where no circuit is above k, as many rounds as operations give the heights, and there are no others.
+pub heights_are : (es : List Edge) (n k : ℕ) → AllByRecursion (EdgeFits n) es → NoneAbove es k →
+    ((u : ℕ) → IsHeight es k u (rounds k es n u)) × ((height : ℕ → ℕ) → ((u : ℕ) → IsHeight es k u (height u)) → height ≡ rounds k es n)
+heights_are es n k fits none =
+    let are : (u : ℕ) → IsHeight es k u (rounds k es n u) = (fixed_is_height es k n (settled es n k (all_within n es fits) none)).1 in
     (are, λ height hs. fun_ext (λ u. height_one es k u _ _ (hs u) (are u)))
+
+pub rounds_are_heights : RoundsAreHeights
+rounds_are_heights es hw n classes lowest k fits min h = heights_are es n k fits (above_minimum es hw n classes lowest k min h)
 
 -- no search takes more steps than it may
 steps_few : (es : List Edge) (hw : Hardware) (n k : ℕ) (o : Outcome) → n ≤ 32 → Sound es hw n k o → steps_of o ≤ 192
