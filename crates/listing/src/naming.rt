@@ -50,16 +50,7 @@ impl<S: Scheme> Body<'_, S> {
         requires known { EachOwn (KnownOperand (length (loop_of self.now))) operation }
         ensures { code_operation_seen result ≡ on_operands (operand_of self.now S.meaning pass stage) (operation_seen operation) }
     {
-        match operation {
-            Operation::Load(cell) => Issued::Load(cell),
-            Operation::Store(a, cell) => Issued::Store(self.source(pass, stage, a), cell),
-            Operation::Binary(operator, a, b) => Issued::Binary(
-                operator,
-                self.source(pass, stage, a),
-                self.source(pass, stage, b),
-            ),
-            Operation::Move(a) => Issued::Move(self.source(pass, stage, a)),
-        }
+        operation.map(|operand| self.source(pass, stage, operand))
     }
 
     // The name of what an operation makes; a store makes nothing.

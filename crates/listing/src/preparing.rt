@@ -60,9 +60,8 @@ fn greatest_distance(operation: Operation) -> usize
 {
     match operation {
         Operation::Load(_) => 0,
-        Operation::Store(a, _) => distance(a),
+        Operation::Store(a, _) | Operation::Move(a) => distance(a),
         Operation::Binary(_, a, b) => distance(a).max(distance(b)),
-        Operation::Move(a) => distance(a),
     }
 }
 

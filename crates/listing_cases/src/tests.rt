@@ -4,7 +4,7 @@ use dependence::loops::Loop;
 use listing::listing::Listing;
 use listing::refusal::Unwritable;
 use listing::slot::Slot;
-use model::{Code, Life, Operator, Part, Parts};
+use model::{Code, Life, Part, Parts};
 use registers::expanded::Expanded;
 use registers::lives::Lives;
 use registers::rotating::Rotating;
@@ -62,20 +62,12 @@ fn named(source: Source) -> Named {
     }
 }
 
-// The code of an operation and its operands; the operand of a store and of a move is the left one.
-fn spelled(operation: Operation) -> (Code, Option<Named>, Option<Named>) {
+// The operands, left and right; the operand of a store and of a move is the left one.
+fn operands(operation: Operation) -> (Option<Named>, Option<Named>) {
     match operation {
-        Operation::Load(_) => (Code::Load, None, None),
-        Operation::Store(a, _) => (Code::Store, Some(named(a)), None),
-        Operation::Binary(operator, a, b) => {
-            let code = match operator {
-                Operator::Plus => Code::Add,
-                Operator::Minus => Code::Sub,
-                Operator::Times => Code::Mul,
-            };
-            (code, Some(named(a)), Some(named(b)))
-        }
-        Operation::Move(a) => (Code::Move, Some(named(a)), None),
+        Operation::Load(_) => (None, None),
+        Operation::Store(a, _) | Operation::Move(a) => (Some(named(a)), None),
+        Operation::Binary(_, a, b) => (Some(named(a)), Some(named(b))),
     }
 }
 
@@ -129,12 +121,12 @@ type Line = (
 );
 
 fn line(slot: &Slot) -> Line {
-    let (code, left, right) = spelled(slot.issue.operation);
+    let (left, right) = operands(slot.issue.operation);
     (
         slot.part,
         slot.pass,
         slot.row,
-        code,
+        slot.issue.operation.code(),
         slot.issue.result,
         left,
         right,
@@ -278,7 +270,7 @@ fn literals_by_distance(rt: HostRuntime) -> Result<(), Fail> {
         );
         assert_eq!(rt; listing.slots().len(), distance + 1);
         for (i, slot) in listing.slots().iter().enumerate() {
-            let (_, left, right) = spelled(slot.issue.operation);
+            let (left, right) = operands(slot.issue.operation);
             assert_eq!(rt; left == Some(Err(0)), i < distance);
             assert_eq!(rt; right, Some(Err(1)));
         }
