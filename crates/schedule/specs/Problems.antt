@@ -19,7 +19,7 @@ machine_in p = hardware p.timings.now p.units.now
 abbrev pub lives_in : Problem → Schedule → Table
 lives_in p w = lives_table (operations_in p) (machine_in p) w
 
--- The minimum is not above k.
+-- No circuit is above k, and each operation alone fits.
 abbrev pub ReadyAt : Problem → ℕ → Type 0
 ReadyAt p k = Ready (operations_in p) p.edges.now p.timings.now p.units.now k
 
