@@ -1,5 +1,5 @@
 -- Rows put behind rows.
-use Rattle.std.proofs.Common.{◌≡◌, ℕ, ◌+◌, ◌<◌, ◌≤◌, ◌-◌, ◌==◌, ◌&&◌, leb, ltb, get_or, true, false, cond, List, [], ◌∷◌, ◌++◌, map, length, vec_items, vec_len, vec_capacity, Vec, sym, refl, ap, ◌∙◌, subst, ap₂, add_assoc, add-one, arith}
+use Rattle.std.proofs.Common.{◌≡◌, ℕ, ◌+◌, ◌<◌, ◌≤◌, ◌-◌, ◌==◌, ◌&&◌, leb, ltb, get_or, true, false, cond, List, [], ◌∷◌, ◌++◌, map, length, vec_items, vec_len, vec_capacity, Vec, sym, ap, ◌∙◌, subst, ap₂, add_assoc, add-one, arith}
 use Rattle.std.specs.declared.alloc.Global.{Global}
 use Rattle.std.proofs.lemmas.List.{append-nil, append_assoc, length-append, length_push, length-map, map_push}
 use Rattle.std.proofs.lemmas.Grind.{flat_map-append}
@@ -26,9 +26,6 @@ pub record Grown (before after : Vec Slot Global) (more : List listings.Slot) : 
   pub items : map slot_seen (vec_items after) ≡ map slot_seen (vec_items before) ++ more
   pub len : vec_len after ≡ vec_len before + length more
   pub cap : vec_capacity after ≡ vec_capacity before
-
-pub grown_none : (v : Vec Slot Global) → Grown v v []
-grown_none v = record { items = sym (append-nil (map slot_seen (vec_items v))); len = omega arith; cap = refl }
 
 pub grown_same : (v u : Vec Slot Global) (xs : List listings.Slot) → Grown v u xs → Grown v u (xs ++ [])
 grown_same v u xs g = rw (append-nil xs) g
@@ -98,9 +95,6 @@ row_pushed a z row g starts len = record {
         starts = starts ∙ ap₂ (λ xs n. xs ++ n ∷ []) k.starts end ∙ sym (cuts_push 0 rows row);
       };
 }
-
-pub append_none : (a : Rows) → Appended a a []
-append_none a = record { slots = omega arith; starts = omega arith; keeps = λ rows k. rw (append-nil rows) k }
 
 pub append_then : (a b c : Rows) (xs ys : List (List listings.Slot)) → Appended a b xs → Appended b c ys → Appended a c (xs ++ ys)
 append_then a b c xs ys f g = record {
