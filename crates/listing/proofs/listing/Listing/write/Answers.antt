@@ -1,9 +1,9 @@
-use Rattle.std.proofs.Common.{◌≤◌, length, refl, arith}
+use Rattle.std.proofs.Common.{◌≤◌, length, refl, arith, rules}
 use Rattle.std.proofs.lemmas.Grind.{common_steps}
 use Rattle.model.specs.Schedule.{stages}
 use Rattle.dependence.specs.Loops.{loop_seen}
 use Rattle.timing.specs.Seen.{schedule_seen}
-use Rattle.listing.proofs.Filled.{deep, near, ready, is_listing, means_issues, stages_same, no_complaint, owed}
+use Rattle.listing.proofs.Filled.{deep, near, ready, is_listing, means_issues, stages_same, owed}
 use Rattle.listing.proofs.listing.Listing.write.Goals as goal
 
 pub overflow_sub-stages : goal.overflow_sub-stages
@@ -54,7 +54,6 @@ returns g c =
     let low : 1 ≤ c.args.schedule.now.interval = grind (arith, common_steps) in
     let high : c.args.schedule.now.interval ≤ 256 = grind (arith, common_steps) in
     let few : c.args.turns ≤ 8 = grind (arith, common_steps) in
-    let some : 1 ≤ c.args.turns = grind (arith, common_steps) in
     let r = ready b m c.args.schedule.now d f c.args.turns c.args.trips c.split-parts.result known.schedule low high known.turns few known.trips c.if-trips-gt4096.false
     c.depth-stages.ensures c.if-stages-gt8.false c.farthest.ensures c.split-parts.ensures in
     let ops = loop_seen c.args.source.now in
@@ -62,6 +61,6 @@ returns g c =
     let shallow : stages w (length ops) ≤ 8 = omega (arith, stages_same b d ops c.args.schedule.now known.source known.schedule c.depth-stages.ensures, c.if-stages-gt8.false) in
     let is = is_listing _ b m ops c.args.schedule.now c.args.scheme.now c.args.turns c.args.trips known.source known.schedule known.scheme known.turns known.trips r c.write.ensures.keeps refl refl in
     record {
-      written = (no_complaint ops w c.args.turns c.args.trips low high some few c.if-trips-gt4096.false shallow, is);
+      written = (search rules, is);
       means = means_issues _ ops w (m c.args.scheme.now) c.args.turns c.args.trips (g.met.S.Scheme.lawful c.args.scheme.now) low shallow is;
     }
