@@ -82,25 +82,19 @@ impl Session {
         line: &[u8],
         number: usize,
     ) -> io::Result<bool> {
-        match read_line(line, self.domain, self.called) {
-            Line::Blank => Ok(true),
-            Line::Scheme(scheme) => {
-                self.scheme = scheme;
-                Ok(true)
-            }
-            Line::Domain(domain) => {
-                self.domain = domain;
-                Ok(true)
-            }
+        let Some(line) = read_line(line, self.domain, self.called) else {
+            writeln!(out, "script error line {number}")?;
+            return Ok(false);
+        };
+        match line {
+            Line::Blank => {}
+            Line::Scheme(scheme) => self.scheme = scheme,
+            Line::Domain(domain) => self.domain = domain,
             Line::Call(call) => {
                 self.called = true;
                 self.play_call(out, heap, call)?;
-                Ok(true)
-            }
-            Line::Wrong => {
-                writeln!(out, "script error line {number}")?;
-                Ok(false)
             }
         }
+        Ok(true)
     }
 }

@@ -5,7 +5,7 @@ use Rattle.script.specs.declared.line.Run.{Run as OwnRun}
 use Rattle.script.specs.declared.line.Call.{Call as OwnCall}
 use Rattle.script.specs.declared.line.Call.TheVariants.{Machine, Loop, Plan, Expand, Run as RunCall}
 use Rattle.script.specs.declared.line.Line.{Line as OwnLine}
-use Rattle.script.specs.declared.line.Line.TheVariants.{Blank, Scheme, Domain, Call as CallLine, Wrong}
+use Rattle.script.specs.declared.line.Line.TheVariants.{Blank, Scheme, Domain, Call as CallLine}
 use Rattle.script.specs.Escapes.{unescaped}
 use Rattle.script.specs.Script.{Run, Call, machine, loop, plan, expand, run, Line, blank, scheme, domain, call, wrong, or_empty, words_of}
 
@@ -20,12 +20,13 @@ call_seen Plan = plan
 call_seen (Expand n) = expand n
 call_seen (RunCall r) = run (run_seen r)
 
-abbrev pub line_seen : OwnLine → Line
-line_seen Blank = blank
-line_seen (Scheme s) = scheme s
-line_seen (Domain d) = domain d
-line_seen (CallLine c) = call (call_seen c)
-line_seen Wrong = wrong
+-- a line that says nothing of a script's is wrong
+abbrev pub line_seen : Option OwnLine → Line
+line_seen None = wrong
+line_seen (Some Blank) = blank
+line_seen (Some (Scheme s)) = scheme s
+line_seen (Some (Domain d)) = domain d
+line_seen (Some (CallLine c)) = call (call_seen c)
 
 -- a body that is quoted, and a run, if there is one
 abbrev pub body_seen : Option (Bor (List ℕ)) → Option (List ℕ)

@@ -38,5 +38,4 @@ pub enum Line<'a> {
     Scheme(SchemeName),
     Domain(DomainName),
     Call(Call<'a>),
-    Wrong,
 }

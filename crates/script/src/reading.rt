@@ -83,19 +83,19 @@ fn run_of<'a>(line: &'a [u8], domain: DomainName) -> Option<Run<'a>>
 }
 
 #[tactic(auto, unfolding(crate::specs::Script::setting_of))]
-fn setting_of<'a>(line: &'a [u8]) -> Line<'a>
+fn setting_of<'a>(line: &'a [u8]) -> Option<Line<'a>>
     ensures { line_seen result ≡ setting_of line.now }
 {
     if line == b"scheme rotating".as_slice() {
-        Line::Scheme(SchemeName::Rotating)
+        Some(Line::Scheme(SchemeName::Rotating))
     } else if line == b"scheme expanded".as_slice() {
-        Line::Scheme(SchemeName::Expanded)
+        Some(Line::Scheme(SchemeName::Expanded))
     } else if line == b"domain words".as_slice() {
-        Line::Domain(DomainName::Words)
+        Some(Line::Domain(DomainName::Words))
     } else if line == b"domain floats".as_slice() {
-        Line::Domain(DomainName::Floats)
+        Some(Line::Domain(DomainName::Floats))
     } else {
-        Line::Wrong
+        None
     }
 }
 
@@ -106,30 +106,30 @@ fn is_blank(line: &[u8]) -> bool
     matches!(line, [] | [b'#', ..])
 }
 
-// What a line says in a domain. Settings stand only before the first call.
-pub fn read_line<'a>(line: &'a [u8], domain: DomainName, called: bool) -> Line<'a>
+// What a line says in a domain, if it is a line of a script. Settings stand only before the first call.
+pub fn read_line<'a>(line: &'a [u8], domain: DomainName, called: bool) -> Option<Line<'a>>
     ensures { line_seen result ≡ line_of domain called line.now }
 {
     if is_blank(line) {
-        return Line::Blank;
+        return Some(Line::Blank);
     }
     if let Some(body) = quoted_body(line, b"machine \"") {
-        return Line::Call(Call::Machine(body));
+        return Some(Line::Call(Call::Machine(body)));
     }
     if let Some(body) = quoted_body(line, b"loop \"") {
-        return Line::Call(Call::Loop(body));
+        return Some(Line::Call(Call::Loop(body)));
     }
     if line == b"plan".as_slice() {
-        return Line::Call(Call::Plan);
+        return Some(Line::Call(Call::Plan));
     }
     if let Some(trips) = expand_of(line) {
-        return Line::Call(Call::Expand(trips));
+        return Some(Line::Call(Call::Expand(trips)));
     }
     if let Some(run) = run_of(line, domain) {
-        return Line::Call(Call::Run(run));
+        return Some(Line::Call(Call::Run(run)));
     }
     if called {
-        return Line::Wrong;
+        return None;
     }
     setting_of(line)
 }
