@@ -8,20 +8,9 @@ ghost use Rattle.engine_writes.specs.Files.{value_file};
 
 use crate::operands::Operands;
 use engine_slots::slot::Resolved;
-use model::Operator;
 use operations::{Cell, Operation};
 use reach::reaching::find_cell;
 use values::domain::Domain;
-
-pub fn apply<D: Domain>(domain: &D, operator: Operator, a: D::Value, b: D::Value) -> D::Value
-    ensures { result ≡ D.operations.apply operator a b }
-{
-    match operator {
-        Operator::Plus => domain.add(a, b),
-        Operator::Minus => domain.sub(a, b),
-        Operator::Times => domain.mul(a, b),
-    }
-}
 
 // What a load of an iteration finds; the value of 0 outside memory.
 pub fn load<D: Domain>(domain: &D, memory: &[D::Value], cell: Cell, iteration: usize) -> D::Value
@@ -60,7 +49,7 @@ impl<D: Domain> Operands<'_, D> {
             Operation::Binary(operator, left, right) => {
                 let a = self.read(left);
                 let b = self.read(right);
-                apply(self.domain, operator, a, b)
+                self.domain.apply(operator, a, b)
             }
         }
     }

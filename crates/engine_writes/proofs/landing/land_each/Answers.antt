@@ -1,10 +1,7 @@
 use Rattle.std.proofs.Common.{inl, inr, arith}
 use Rattle.std.proofs.lemmas.Bool.{cases_eq}
-use Rattle.engine_writes.proofs.Landings.{done_here, done_still, between_still, between_none}
+use Rattle.engine_writes.proofs.Landings.{done_here, done_still, between_still}
 use Rattle.engine_writes.proofs.landing.land_each.Goals as goal
-
-pub loop-r-init : goal.loop-r-init
-loop-r-init g c = λ d. (between_none c.args.cycle c.args.waiting.now c.args.statuses.now.status c.args.values.now d, λ r h. absurd (omega arith))
 
 pub loop-r-preserved : goal.loop-r-preserved
 loop-r-preserved g c = λ d.

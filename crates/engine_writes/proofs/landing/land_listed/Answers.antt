@@ -1,12 +1,9 @@
 use Rattle.std.proofs.Common.{get_or, take, sym}
 use Rattle.std.proofs.lemmas.List.{take_all}
-use Rattle.std.proofs.lemmas.List.Elements.{All-nil, All-more, All-same, All-weaker}
+use Rattle.std.proofs.lemmas.List.Elements.{All-more, All-same, All-weaker}
 use Rattle.engine_writes.specs.Files.{Done}
-use Rattle.engine_writes.proofs.Landings.{done_here, done_still, between_still, between_none}
+use Rattle.engine_writes.proofs.Landings.{done_here, done_still, between_still}
 use Rattle.engine_writes.proofs.landing.land_listed.Goals as goal
-
-pub loop-r-init : goal.loop-r-init
-loop-r-init g c = λ d. (between_none c.args.cycle c.args.waiting.now c.args.statuses.now.status c.args.values.now d, All-nil (Done c.args.cycle c.args.waiting.now c.args.statuses.now.status c.args.values.now c.args.statuses.now.status c.args.values.now d))
 
 pub loop-r-preserved : goal.loop-r-preserved
 loop-r-preserved g c = λ d.

@@ -1,24 +1,19 @@
-use Rattle.std.proofs.Common.{◌≡◌, ℕ, true, false, cond, set, subst, Some, None, Option, Ok, sym, refl, ◌∙◌, arith, rules}
-use Rattle.model.specs.declared.Question.{Question}
+use Rattle.std.proofs.Common.{◌≡◌, true, false, cond, set, subst, sym, ◌∙◌, arith, rules}
 use Rattle.model.specs.declared.Status.TheVariants.{Waits}
 use Rattle.model.specs.Loop.{makes}
 use Rattle.engine_laws.specs.Tracks.{Tracks}
 use Rattle.engine_laws.specs.Parts.{status_after, taken_after}
 use Rattle.engine_laws.proofs.Examining.{slot_tracked, room_left}
 use Rattle.engine_slots.specs.Slots.{slot_of, operation_of}
-use Rattle.engine_slots.specs.Rows.{question_answered}
 use Rattle.engine_slots.specs.Boards.{taken_in}
+use Rattle.engine_slots.proofs.Questions.{none_denied}
 use Rattle.engine_slots.proofs.board.Board.admit.Goals as goal
-
-none_denied : (o : Option Question) (u : Unit {0}) → question_answered o ≡ Ok u → None ≡ o
-none_denied None u e = refl
-none_denied (Some q) u e = let z : ◌≡◌ {A = ℕ} 0 1 = cc in absurd (omega arith)
 
 pub take-requires : goal.take-requires
 take-requires c = record {
   small = search rules;
   room = room_left c.args.self.now.statuses.status (taken_in c.args.self.now.units) (λ _. c.args.units) c.args.bounds.trips c.args.bounds.cells c.args.row.pass c.args.row.cycle (slot_of c.args.slot.now)
-      (none_denied _ c.in_ok-ask.field-0 (sym c.ask.ensures ∙ c.in_ok-ask.was)) (omega (arith, c.ranges.units.fits));
+      (none_denied _ c.in_ok-ask.field-0 c.in_ok-ask.ensures) (omega (arith, c.ranges.units.fits));
 }
 
 pub returns-then-makes : goal.returns-then-makes

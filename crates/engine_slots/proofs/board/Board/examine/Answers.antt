@@ -1,17 +1,8 @@
-use Rattle.std.proofs.Common.{◌≡◌, ℕ, Some, None, Option, Ok, Err, sym, refl, arith}
-use Rattle.model.specs.declared.Question.{Question}
+use Rattle.std.proofs.Common.{◌≡◌, ℕ, sym, arith}
 use Rattle.engine_laws.proofs.Stepping.{passed_over, denied, admitted, through}
 use Rattle.engine_slots.specs.Slots.{slot_of}
-use Rattle.engine_slots.specs.Rows.{question_answered}
+use Rattle.engine_slots.proofs.Questions.{none_denied, one_denied}
 use Rattle.engine_slots.proofs.board.Board.examine.Goals as goal
-
-none_denied : (o : Option Question) (u : Unit {0}) → Ok u ≡ question_answered o → None ≡ o
-none_denied None u e = refl
-none_denied (Some q) u e = let z : ◌≡◌ {A = ℕ} 0 1 = cc in absurd (omega arith)
-
-one_denied : (o : Option Question) (q : Question) → Err q ≡ question_answered o → Some q ≡ o
-one_denied None q e = let z : ◌≡◌ {A = ℕ} 0 1 = cc in absurd (omega arith)
-one_denied (Some r) q e = cc
 
 pub loop-place-preserved-in_default : goal.loop-place-preserved-in_default
 loop-place-preserved-in_default g c = (
