@@ -4,7 +4,7 @@ use Rattle.model.specs.Shapes.{between, digit}
 use Rattle.script.specs.declared.escapes.After.{After}
 use Rattle.script.specs.declared.escapes.After.TheVariants.{Plain, Backslash, Hex, Digit}
 use Rattle.script.specs.declared.escapes.Step.{Step}
-use Rattle.script.specs.declared.escapes.Step.TheVariants.{Turn, Put, Wrong}
+use Rattle.script.specs.declared.escapes.Step.TheVariants.{Turn, Put}
 
 -- 0 to 9 and a to f
 abbrev pub hex_digit : ℕ → Bool
@@ -15,11 +15,11 @@ hex_value b = cond (digit b) (b - 48) (cond (between 97 102 b) (b - 87) 0)
 
 -- What a byte does, by what stands before it: \n is byte 10, \\ and \" are the byte behind the backslash, \xHH is the byte with those two digits;
 -- a quote stands only behind a backslash, and any other byte for itself.
-abbrev pub step_of : After → ℕ → Step
-step_of Plain b = cond (b == 92) (Turn Backslash) (cond (b == 34) Wrong (Put b))
-step_of Backslash b = cond (b == 110) (Put 10) (cond (b == 92 || b == 34) (Put b) (cond (b == 120) (Turn Hex) Wrong))
-step_of Hex b = cond (hex_digit b) (Turn (Digit b)) Wrong
-step_of (Digit h) b = cond (hex_digit b) (Put (16 * hex_value h + hex_value b)) Wrong
+abbrev pub step_of : After → ℕ → Option Step
+step_of Plain b = cond (b == 92) (Some (Turn Backslash)) (cond (b == 34) None (Some (Put b)))
+step_of Backslash b = cond (b == 110) (Some (Put 10)) (cond (b == 92 || b == 34) (Some (Put b)) (cond (b == 120) (Some (Turn Hex)) None))
+step_of Hex b = cond (hex_digit b) (Some (Turn (Digit b))) None
+step_of (Digit h) b = cond (hex_digit b) (Some (Put (16 * hex_value h + hex_value b))) None
 
 -- an escape is finished before the text ends
 abbrev pub closed : After → Option (List ℕ)
@@ -32,10 +32,10 @@ abbrev pub put : ℕ → Option (List ℕ) → Option (List ℕ)
 put b None = None
 put b (Some t) = Some (b ∷ t)
 
-abbrev pub go_on : Step → (After → Option (List ℕ)) → Option (List ℕ)
-go_on (Turn a) rest = rest a
-go_on (Put b) rest = put b (rest Plain)
-go_on Wrong rest = None
+abbrev pub go_on : Option Step → (After → Option (List ℕ)) → Option (List ℕ)
+go_on (Some (Turn a)) rest = rest a
+go_on (Some (Put b)) rest = put b (rest Plain)
+go_on None rest = None
 
 abbrev pub spelled : After → List ℕ → Option (List ℕ)
 spelled a [] = closed a

@@ -12,12 +12,11 @@ pub enum After {
     Digit(u8),
 }
 
-// What a byte does.
+// What a byte does, if it may stand there.
 #[derive(Clone, Copy, PartialEq, Eq, Debug)]
 pub enum Step {
     Turn(After),
     Put(u8),
-    Wrong,
 }
 
 pub(crate) fn is_hex(b: u8) -> bool
@@ -38,37 +37,37 @@ pub(crate) fn hex_value(b: u8) -> u8
 }
 
 // Outside an escape.
-fn plain(b: u8) -> Step
+fn plain(b: u8) -> Option<Step>
     ensures { result ≡ step_of After.Plain b }
 {
     match b {
-        b'\\' => Step::Turn(After::Backslash),
-        b'"' => Step::Wrong,
-        _ => Step::Put(b),
+        b'\\' => Some(Step::Turn(After::Backslash)),
+        b'"' => None,
+        _ => Some(Step::Put(b)),
     }
 }
 
 // Behind a backslash.
-fn escape(b: u8) -> Step
+fn escape(b: u8) -> Option<Step>
     ensures { result ≡ step_of After.Backslash b }
 {
     match b {
-        b'n' => Step::Put(10),
-        b'\\' | b'"' => Step::Put(b),
-        b'x' => Step::Turn(After::Hex),
-        _ => Step::Wrong,
+        b'n' => Some(Step::Put(10)),
+        b'\\' | b'"' => Some(Step::Put(b)),
+        b'x' => Some(Step::Turn(After::Hex)),
+        _ => None,
     }
 }
 
-fn effect(after: After, b: u8) -> Step
+fn effect(after: After, b: u8) -> Option<Step>
     ensures { result ≡ step_of after b }
 {
     match after {
         After::Plain => plain(b),
         After::Backslash => escape(b),
-        After::Hex if is_hex(b) => Step::Turn(After::Digit(b)),
-        After::Digit(h) if is_hex(b) => Step::Put(16 * hex_value(h) + hex_value(b)),
-        After::Hex | After::Digit(_) => Step::Wrong,
+        After::Hex if is_hex(b) => Some(Step::Turn(After::Digit(b))),
+        After::Digit(h) if is_hex(b) => Some(Step::Put(16 * hex_value(h) + hex_value(b))),
+        After::Hex | After::Digit(_) => None,
     }
 }
 
@@ -89,13 +88,12 @@ pub(crate) fn text_len(body: &[u8]) -> Option<usize>
     let mut after = After::Plain;
     let mut n = 0;
     for b in body {
-        match effect(after, *b) {
+        match effect(after, *b)? {
             Step::Turn(next) => after = next,
             Step::Put(_) => {
                 after = After::Plain;
                 n += 1;
             }
-            Step::Wrong => return None,
         }
     }
     ended(after, n)
@@ -113,14 +111,13 @@ pub fn unescape(body: &[u8], out: &mut [u8]) -> Option<usize>
     let mut after = After::Plain;
     let mut n = 0;
     for b in body {
-        match effect(after, *b) {
+        match effect(after, *b)? {
             Step::Turn(next) => after = next,
             Step::Put(x) => {
                 after = After::Plain;
                 out[n] = x;
                 n += 1;
             }
-            Step::Wrong => return None,
         }
     }
     Some(total)
