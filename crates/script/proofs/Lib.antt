@@ -1,3 +1,2 @@
 pub mod Spells
 pub mod Splits
-pub mod Lines

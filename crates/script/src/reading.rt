@@ -59,6 +59,7 @@ fn next_length(words: &mut Words<'_>) -> Option<usize>
     length_of(words.next()?)
 }
 
+#[tactic(auto, unfolding(crate::specs::Script::run_of))]
 fn run_of<'a>(line: &'a [u8], domain: DomainName) -> Option<Run<'a>>
     ensures { run_in result ≡ run_of domain line.now }
 {
