@@ -1,7 +1,6 @@
 -- What a buffer holds of a text.
-use Rattle.std.specs.Prelude.{ℕ, cond, List, ◌++◌, length, drop, Some, None, Option, nat_le}
-use Rattle.script.specs.declared.escapes.After.{After}
-use Rattle.script.specs.declared.escapes.After.TheVariants.{Plain, Backslash, Hex, Digit}
+use Rattle.std.specs.Prelude.{ℕ, Bool, true, false, cond, List, [], ◌++◌, length, drop, Some, None, Option, nat_le}
+use Rattle.script.specs.Escapes.{put}
 
 abbrev pub length_in : Option (List ℕ) → Option ℕ
 length_in None = None
@@ -17,9 +16,13 @@ abbrev pub filled : List ℕ → Option (List ℕ) → List ℕ
 filled out None = out
 filled out (Some t) = cond (nat_le (length t) (length out)) (t ++ drop (length t) out) out
 
--- a text of n bytes ends here
-abbrev pub ended_at : After → ℕ → Option ℕ
-ended_at Plain n = Some n
-ended_at Backslash n = None
-ended_at Hex n = None
-ended_at (Digit h) n = None
+-- a text by its next byte, if there is one, and the rest
+abbrev pub told : Option (Option ℕ) → Option (List ℕ) → Option (List ℕ)
+told None rest = None
+told (Some None) rest = Some []
+told (Some (Some b)) rest = put b rest
+
+abbrev pub is_byte : Option (Option ℕ) → Bool
+is_byte None = false
+is_byte (Some None) = false
+is_byte (Some (Some b)) = true
