@@ -75,8 +75,7 @@ impl<S: Scheme, D: Domain> Packer<S, D> {
             trips,
             passes: self.desk.listing.passes(),
         };
-        // A listing that stands never halts.
-        drive(
+        match drive(
             &self.desk.listing,
             &self.scheme,
             &self.domain,
@@ -85,7 +84,10 @@ impl<S: Scheme, D: Domain> Packer<S, D> {
             memory,
             values,
             waiting,
-        )
-        .map_err(|_| PackFault::NotStanding)
+        ) {
+            Ok(cycles) => Ok(cycles),
+            // A listing that stands never halts.
+            Err(_) => Err(PackFault::NotStanding),
+        }
     }
 }
