@@ -49,11 +49,8 @@ fn hex_number(s: &[u8]) -> u64
     requires { length s.now ≤ 16 }
     ensures { result ≡ hex_number s.now }
 {
-    let mut n: u64 = 0;
-    for b in s {
-        n = n * 16 + u64::from(hex_value(*b));
-    }
-    n
+    s.iter()
+        .fold(0u64, |n, b| n * 16 + u64::from(hex_value(*b)))
 }
 
 // A cell of floats.

@@ -72,7 +72,7 @@ fn effect(after: After, b: u8) -> Option<Step>
 }
 
 // What is left of a body, and what stands before it.
-#[derive(Clone, Copy)]
+#[derive(Drop)]
 struct Body<'a> {
     after: After,
     bytes: &'a [u8],

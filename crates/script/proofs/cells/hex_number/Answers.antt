@@ -1,38 +1,23 @@
-use Rattle.std.proofs.Common.{ℕ, ◌+◌, ◌*◌, ◌^◌, ◌<◌, ◌≤◌, drop, fold, sym, refl, ap, ◌∙◌, arith, pow-add}
+use Rattle.std.proofs.Common.{ℕ, ◌+◌, ◌*◌, ◌^◌, ◌<◌, ◌≤◌, [], ◌∷◌, map, length, Bor, arith, rules, refl, ap, pow-add}
 use native.Mathlib.Nat.{pow-le-pow_right}
-use Rattle.std.proofs.lemmas.List.{at_drop_more, at_drop_all}
-use Rattle.script.specs.Escapes.{hex_value}
+use Rattle.std.proofs.lemmas.List.{length_push, length-append, length-map}
+use Rattle.std.proofs.iter.Yields as gives
 use Rattle.script.proofs.cells.hex_number.Goals as goal
 
-abbrev more : ℕ → ℕ → ℕ
-more n b = n * 16 + hex_value b
-
-pub overflow_mul-n : goal.overflow_mul-n
-overflow_mul-n c =
-    let inv = c.loop-b.invariant in
-    let few : c.loop-b.b-index + 1 ≤ 16 = omega arith in
-    let p : ◌^◌ 16 (c.loop-b.b-index + 1) ≤ ◌^◌ 16 16 = pow-le-pow_right (let z : 0 < 16 = omega arith in z) few in
-    omega (arith, inv.2, pow-add 16 c.loop-b.b-index 1)
-
-pub overflow_add-n : goal.overflow_add-n
-overflow_add-n c =
-    let inv = c.loop-b.invariant in
-    let few : c.loop-b.b-index + 1 ≤ 16 = omega arith in
-    let p : ◌^◌ 16 (c.loop-b.b-index + 1) ≤ ◌^◌ 16 16 = pow-le-pow_right (let z : 0 < 16 = omega arith in z) few in
-    omega (arith, inv.2, pow-add 16 c.loop-b.b-index 1)
-
-pub loop-b-preserved : goal.loop-b-preserved
-loop-b-preserved c =
-    let inv = c.loop-b.invariant in
-    let i = c.loop-b.b-index in
-    let w = c.args.s.now in (
-      ap (λ x. fold more (c.loop-b.n * 16 + x) (drop (i + 1) w)) (c.from.ensures ∙ c.hex_value.ensures.value) ∙ sym (at_drop_more (fold more c.loop-b.n) w i 0 c.loop-b-test.true) ∙ inv.0,
-      inv.1,
-      omega (arith, inv.2, pow-add 16 i 1),
-    )
-
-pub returns : goal.returns
-returns c = sym (at_drop_all (fold more c.loop-b.n) c.args.s.now c.loop-b.b-index c.loop-b-test.false) ∙ c.loop-b.invariant.0
-
-pub loop-b-init : goal.loop-b-init
-loop-b-init c = (refl, c.requires, omega arith)
+-- After i digits the value is below 16 ^ i, and there is room for one digit more.
+pub fold-requires-clause-callable : goal.fold-requires-clause-callable
+fold-requires-clause-callable c =
+    gives.serves_by _ (λ xs q. q.1 < 16 ^ length xs)
+    (λ xs q x v j r. let more = length_push xs x in let p = pow-add 16 (length xs) 1 in search rules)
+    _ _ _ _
+    (let z : 0 < 1 = omega arith in z)
+    (λ xs i q x u y e j.
+    let l = gives.gives_left gives.fronts (λ b. b.now) xs c.iter.result.rest.now c.iter.result i (gives.slice_gives c.iter.result) y in
+    let m = gives.gives_left gives.fronts (λ b. b.now) (x ∷ []) l.0 i u l.2 (u, e, refl) in
+    let la = ap length l.1 in
+    let ma = ap length m.1 in
+    let s : length c.iter.result.rest.now ≤ 16 = search rules in
+    let few : length xs + 1 ≤ 16 = omega (arith, s, la, ma, length-append (map (λ (b : Bor ℕ). b.now) xs) l.0, length-map xs (λ (b : Bor ℕ). b.now)) in
+    let p : ◌^◌ 16 (length xs + 1) ≤ ◌^◌ 16 16 = pow-le-pow_right (let z : 0 < 16 = omega arith in z) few in
+    let fit : q.1 * 16 + 15 < 18446744073709551616 = omega (arith, j, p, pow-add 16 (length xs) 1) in
+    search rules)
