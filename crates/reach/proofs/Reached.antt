@@ -43,6 +43,6 @@ holds_all p (x ∷ xs) d each = rw (each 0 (omega arith)) (holds_all p xs d (λ 
 pub all_decide : (ops : Loop) (trips last cells : ℕ) → trips ≡ last + 1 → Decides (list_all (λ o. cell_held o last cells) ops) (InMemory ops trips cells)
 unfolding op
 all_decide ops trips last cells e = (
-    (λ all j i x small run touches. held_touched (op ops j) i last cells x (omega arith) (holds_at (λ o. cell_held o last cells) ops j _ all small) touches),
-    (λ all. holds_all (λ o. cell_held o last cells) ops _ (λ j small. touched_held (op ops j) last cells (λ x. all j last x small (omega arith)))),
+  (λ all j i x small run touches. held_touched (op ops j) i last cells x (omega arith) (holds_at (λ o. cell_held o last cells) ops j _ all small) touches),
+  (λ all. holds_all (λ o. cell_held o last cells) ops _ (λ j small. touched_held (op ops j) last cells (λ x. all j last x small (omega arith)))),
 )

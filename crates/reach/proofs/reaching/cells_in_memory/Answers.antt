@@ -17,6 +17,6 @@ returns-else-trips-eq0 c =
     let last = c.args.trips - 1 in
     let own = c.operations.result.now in
     let said : c.all.result ≡ list_all (λ o. cell_held o last c.args.cells) ops =
-        all_from_yields_List (λ o. cell_held (operation_seen o) last c.args.cells) _ _ c.all.result c.all.ensures.ran (YieldsList-from_slice own cc) (λ x b q k. search (rules, tests))
-        ∙ sym (list_all-map (λ o. cell_held o last c.args.cells) operation_seen own) ∙ ap (list_all (λ o. cell_held o last c.args.cells)) c.operations.ensures.operations in
+    all_from_yields_List (λ o. cell_held (operation_seen o) last c.args.cells) _ _ c.all.result c.all.ensures.ran (YieldsList-from_slice own cc) (λ x b q k. search (rules, tests))
+    ∙ sym (list_all-map (λ o. cell_held o last c.args.cells) operation_seen own) ∙ ap (list_all (λ o. cell_held o last c.args.cells)) c.operations.ensures.operations in
     subst (λ b. Decides b (InMemory ops c.args.trips c.args.cells)) (sym said) (all_decide ops c.args.trips last c.args.cells (omega (arith, c.if-trips-eq0.false)))
