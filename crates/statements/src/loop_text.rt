@@ -90,25 +90,18 @@ fn name_for(form: Form<'_>, statements: &[Statement]) -> Result<Option<Name>, Te
     Ok(Some(Name::from(word)))
 }
 
-// How many of the statements are loads and stores.
-fn count_in_memory(statements: &[Statement]) -> usize
-    ensures { result ≡ memory_operations (all_seen statements.now) }
-{
-    statements
-        .iter()
-        .filter(|s| s.action.cell().is_some())
-        .count()
-}
-
 // One statement more, unless there is no room for it.
 fn push(m: &mut Statements, s: Statement) -> Result<(), TextFault>
     ensures { told result (all_seen (held m.new.items)) ≡ push_step (all_seen (held m.old.items)) (statement_seen s) }
 {
     let fault = TextFault::ManyOperations { line: s.line };
-    if s.action.cell().is_some() && count_in_memory(m.items.as_slice()) >= MOST_IN_MEMORY {
+    let touches = m.in_memory + usize::from(s.action.cell().is_some());
+    if touches > MOST_IN_MEMORY {
         return Err(fault);
     }
-    m.items.push(s).map_err(|_| fault)
+    m.items.push(s).map_err(|_| fault)?;
+    m.in_memory = touches;
+    Ok(())
 }
 
 // A line that has a form.
@@ -146,6 +139,7 @@ impl Record for Statements {
         };
         Statements {
             items: Few::new(unsaid),
+            in_memory: 0,
         }
     }
 
