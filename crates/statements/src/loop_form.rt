@@ -95,10 +95,20 @@ fn move_form<'a>(row: &[Token<'a>]) -> Option<Form<'a>>
 pub(crate) fn find_loop_form<'a>(row: &[Token<'a>]) -> Option<Form<'a>>
     ensures { FormFound (map seen row.now) result }
 {
-    load_form(row)
-        .or(store_form(row))
-        .or(binary_form(row, Operator::Plus))
-        .or(binary_form(row, Operator::Minus))
-        .or(binary_form(row, Operator::Times))
-        .or(move_form(row))
+    if let Some(form) = load_form(row) {
+        return Some(form);
+    }
+    if let Some(form) = store_form(row) {
+        return Some(form);
+    }
+    if let Some(form) = binary_form(row, Operator::Plus) {
+        return Some(form);
+    }
+    if let Some(form) = binary_form(row, Operator::Minus) {
+        return Some(form);
+    }
+    if let Some(form) = binary_form(row, Operator::Times) {
+        return Some(form);
+    }
+    move_form(row)
 }
