@@ -1,5 +1,6 @@
 -- What one line of a loop text does, by its form.
-use Rattle.std.proofs.Common.{◌≡◌, ℕ, ◌≤◌, Bool, true, ◌||◌, ◌&&◌, leb, List, [], ◌∷◌, ◌++◌, map, length, take, Some, None, Ok, Err, Option, Result, sym, refl, ap, ◌∙◌, arith}
+use Rattle.std.proofs.Common.{◌≡◌, ℕ, ◌≤◌, Bool, true, false, ◌||◌, ◌&&◌, leb, List, [], ◌∷◌, ◌++◌, map, length, take, Some, None, Ok, Err, Option, Result, sym, refl, ap, ◌∙◌, arith}
+use Rattle.std.proofs.lemmas.List.{append-nil}
 use Rattle.model.specs.declared.Code.{Code}
 use Rattle.model.specs.declared.Code.TheVariants.{Load, Store, Add, Sub, Mul, Move}
 use Rattle.model.specs.declared.Operator.{Operator}
@@ -100,6 +101,9 @@ some_tokens : (ts row : List Lexeme) → row ≡ take 6 ts → (length row ≡ 0
 some_tokens ts row r h e = h (ap length r ∙ ap (λ xs. length (take 6 xs)) e)
 
 module _ (ss : List Statement) (l : Line) where
+  pub line_1 : every (between 32 126) l.bytes ≡ false → Err (record { number = 1; line = l.number; column = None }) ≡ line_step statement_rules ss l
+  line_1 e = simp e
+
   module _ (e : every (between 32 126) l.bytes ≡ true) where
     abbrev more : Option Code → List Lexeme → List Statement
     more o ts = ss ++ statement_by l.number o ts
@@ -110,6 +114,14 @@ module _ (ss : List Statement) (l : Line) where
 
     past_1 : line_step statement_rules ss l ≡ from_2 (formed l) (form_of (tokens l)) (tokens l)
     past_1 = simp e
+
+    -- a line without tokens adds nothing, since the statements before it had room
+    pub line_2 : leb (length ss) 32 ≡ true → leb (memory_operations ss) 16 ≡ true → tokens l ≡ [] → Ok ss ≡ line_step statement_rules ss l
+    line_2 p q h = go (tokens l) h ∙ sym past_1
+      where
+        go : (ts : List Lexeme) → ts ≡ [] → Ok ss ≡ from_2 (formed_by (λ xs. has_some (form_of xs)) l.number ts) (form_of ts) ts
+        go [] k = simp (append-nil ss, p, q)
+        go (t ∷ ts) k = cc
 
     line_3 : (tokens l ≡ [] → ⊥) → form_of (tokens l) ≡ None → Err (record { number = 2; line = l.number; column = None }) ≡ line_step statement_rules ss l
     line_3 h o = go (tokens l) h o ∙ sym past_1
