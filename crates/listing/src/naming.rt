@@ -57,10 +57,13 @@ impl<S: Scheme> Body<'_, S> {
     fn result(&self, pass: usize, placed: &Placed) -> Option<usize>
         ensures { result ≡ result_of self.now S.meaning pass placed.now }
     {
-        let name = self
-            .scheme
-            .name(placed.variable, pass % self.turns, placed.stage);
-        placed.operation.makes().then_some(name)
+        if !placed.operation.makes() {
+            return None;
+        }
+        Some(
+            self.scheme
+                .name(placed.variable, pass % self.turns, placed.stage),
+        )
     }
 
     // An operation as it is written.
