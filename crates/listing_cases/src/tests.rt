@@ -1,5 +1,5 @@
 use code::form::Code as CodeForm;
-use code::issue::{Operation, Source};
+use code::issue::Source;
 use dependence::loops::Loop;
 use listing::listing::Listing;
 use listing::refusal::Unwritable;
@@ -62,15 +62,6 @@ fn named(source: Source) -> Named {
     }
 }
 
-// The operands, left and right; the operand of a store and of a move is the left one.
-fn operands(operation: Operation) -> (Option<Named>, Option<Named>) {
-    match operation {
-        Operation::Load(_) => (None, None),
-        Operation::Store(a, _) | Operation::Move(a) => (Some(named(a)), None),
-        Operation::Binary(_, a, b) => (Some(named(a)), Some(named(b))),
-    }
-}
-
 // Each operation has head + turns + left slots where the kernel repeats, and as many as there are trips where it does not.
 #[test]
 fn parts_of_the_sum(rt: HostRuntime) -> Result<(), Fail> {
@@ -121,15 +112,14 @@ type Line = (
 );
 
 fn line(slot: &Slot) -> Line {
-    let (left, right) = operands(slot.issue.operation);
     (
         slot.part,
         slot.pass,
         slot.row,
-        slot.issue.operation.code(),
-        slot.issue.result,
-        left,
-        right,
+        slot.code(),
+        slot.result(),
+        slot.left().map(named),
+        slot.right().map(named),
     )
 }
 
@@ -270,9 +260,8 @@ fn literals_by_distance(rt: HostRuntime) -> Result<(), Fail> {
         );
         assert_eq!(rt; listing.slots().len(), distance + 1);
         for (i, slot) in listing.slots().iter().enumerate() {
-            let (left, right) = operands(slot.issue.operation);
-            assert_eq!(rt; left == Some(Err(0)), i < distance);
-            assert_eq!(rt; right, Some(Err(1)));
+            assert_eq!(rt; slot.left().map(named) == Some(Err(0)), i < distance);
+            assert_eq!(rt; slot.right().map(named), Some(Err(1)));
         }
     }
     Ok(())

@@ -1,7 +1,8 @@
 // What is asked of an operation.
-ghost use Rattle.std.specs.Prelude.{◌≡◌, is_some, IfSome};
+ghost use Rattle.std.specs.Prelude.{◌≡◌, is_some, IfSome, option_map};
 ghost use Rattle.model.specs.Loop.{makes, in_memory, stride_of, offset_of, on_operands};
 ghost use Rattle.model.specs.Soundness.{code_of};
+ghost use Rattle.model.specs.Listing.{left_of, right_of};
 ghost use Rattle.operations.specs.Seen.{seen, cell_in, EachOwn, Turned};
 
 use crate::operation::{Cell, Operand, Operation};
@@ -39,6 +40,20 @@ impl<A: Operand> Operation<A> {
             Operation::Load(cell) => Some(*cell),
             Operation::Store(_, cell) => Some(*cell),
             Operation::Binary(..) | Operation::Move(_) => None,
+        }
+    }
+
+    // The left and the right operand; the one operand of a store and of a move is the left one.
+    pub fn operands(&self) -> (Option<A>, Option<A>)
+        ensures left { result.0 ≡ left_of (seen (λ a. a) self.now) }
+        ensures right { result.1 ≡ right_of (seen (λ a. a) self.now) }
+        ensures left_shown { option_map A.shown result.0 ≡ left_of (seen A.shown self.now) }
+        ensures right_shown { option_map A.shown result.1 ≡ right_of (seen A.shown self.now) }
+    {
+        match self {
+            Operation::Load(_) => (None, None),
+            Operation::Store(a, _) | Operation::Move(a) => (Some(*a), None),
+            Operation::Binary(_, a, b) => (Some(*a), Some(*b)),
         }
     }
 
