@@ -1,6 +1,6 @@
 -- What is known when a listing is written.
-use Rattle.std.proofs.Common.{◌≡◌, ℕ, ◌+◌, ◌-◌, ◌*◌, ◌/◌, ◌%◌, ◌<◌, ◌≤◌, cond, eqb, leb, List, map, length, vec_len, sym, ap, ◌∙◌, subst, ap₂, inl, inr, mul-le-mul, arith}
-use Rattle.std.proofs.lemmas.Bool.{cases_eq, eq-eqb, ne_eqb}
+use Rattle.std.proofs.Common.{◌≡◌, ℕ, ◌+◌, ◌-◌, ◌*◌, ◌/◌, ◌%◌, ◌<◌, ◌≤◌, cond, eqb, leb, List, map, length, Some, None, vec_len, sym, ap, ◌∙◌, subst, ap₂, inl, inr, mul-le-mul, arith}
+use Rattle.std.proofs.lemmas.Bool.{cases_eq, eq-eqb, ne_eqb, le-leb, lt-leb}
 use Rattle.model.specs.declared.Parts.{Parts}
 use Rattle.model.specs.declared.Timing.{Timing}
 use Rattle.model.specs.Loop.{Loop, Hardware, WellFormed}
@@ -25,7 +25,8 @@ use Rattle.listing.specs.Views.{loop_of, schedule_of}
 use Rattle.listing.specs.Rows.{all_rows}
 use Rattle.listing.specs.Kept.{all_slots, Keeps}
 use Rattle.listing.specs.Forms.{rows_said}
-use Rattle.listing.specs.Written.{Is}
+use Rattle.listing.specs.Written.{Is, complaint}
+use Rattle.listing.specs.declared.refusal.Unwritable.TheVariants.{Stages}
 use Rattle.listing.proofs.Bodies.{formed}
 use Rattle.listing.proofs.Cuts.{says_same}
 
@@ -120,6 +121,17 @@ means_issues l ops w scheme turns trips lawful positive shallow is turning varia
 pub stages_same : {S : Type 0} (b : Body S) (d : ℕ) (ops : Loop) (s : OwnSchedule) → loop_of b ≡ ops → b.schedule ≡ s → d ≡ stages (schedule_of b) (length (loop_of b)) →
     stages (schedule_seen s) (length ops) ≡ d
 stages_same b d ops s ops_is s_is d_is = sym (d_is ∙ ap₂ (λ x y. stages (schedule_seen x) (length y)) s_is ops_is)
+
+-- Complaints.
+pub no_complaint : (ops : Loop) (w : Schedule) (turns trips : ℕ) → 1 ≤ w.interval → w.interval ≤ 256 → 1 ≤ turns → turns ≤ 8 → trips ≤ 4096 → stages w (length ops) ≤ 8 →
+    complaint ops w turns trips ≡ None
+no_complaint ops w turns trips a b c d e f =
+    rw (le-leb 1 w.interval a, le-leb w.interval 256 b, le-leb 1 turns c, le-leb turns 8 d, le-leb 0 trips (omega arith), le-leb trips 4096 e, le-leb 0 (stages w (length ops)) (omega arith), le-leb (stages w (length ops)) 8 f)
+
+pub too_deep : (ops : Loop) (w : Schedule) (turns trips : ℕ) → 1 ≤ w.interval → w.interval ≤ 256 → 1 ≤ turns → turns ≤ 8 → trips ≤ 4096 → 8 < stages w (length ops) →
+    complaint ops w turns trips ≡ Some Stages
+too_deep ops w turns trips a b c d e f =
+    rw (le-leb 1 w.interval a, le-leb w.interval 256 b, le-leb 1 turns c, le-leb turns 8 d, le-leb 0 trips (omega arith), le-leb trips 4096 e, le-leb 0 (stages w (length ops)) (omega arith), lt-leb (stages w (length ops)) 8 f)
 
 -- What a listing owes.
 pub owed : {S : Type 0} (b : Body S) (m : S → Meaning) (s : OwnSchedule) (ps : Parts) (rows : Rows) → b.schedule ≡ s → s.interval ≤ 256 → Ready b m ps →
