@@ -76,7 +76,7 @@ impl ReservationTable {
         requires { row < 256 }
         ensures { result ≡ overfull_by self.now uses.now row }
     {
-        self.rows.count(uses.class, row) + uses.in_row(row) > self.units[uses.class]
+        self.rows.at(uses.class, row) + uses.in_row(row) > self.units[uses.class]
     }
 
     // One of the other uses is in a row that would be overfull.
@@ -130,7 +130,7 @@ impl ReservationTable {
     {
         uses.cycles().all(|cycle| {
             let row = uses.row(cycle);
-            uses.in_row(row) <= self.rows.count(uses.class, row)
+            uses.in_row(row) <= self.rows.at(uses.class, row)
         })
     }
 

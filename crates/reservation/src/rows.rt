@@ -31,6 +31,14 @@ impl Rows {
             .map_or(0, |count| usize::from(*count))
     }
 
+    // The uses of a class in a row that there is.
+    pub(crate) fn at(&self, class: usize, row: usize) -> usize
+        requires { (class < 8) × (row < 256) }
+        ensures { result ≡ cell self.now.counts class row }
+    {
+        usize::from(self.counts[class][row])
+    }
+
     // A step of the count for each use.
     pub(crate) fn change<F: Fn(u8) -> u8>(&mut self, uses: &Uses, step: F)
         requires { (n : ℕ) → n < 256 → F.pre step n }
