@@ -1,7 +1,5 @@
 -- The search's arrays.
-use Rattle.std.proofs.Common.{◌≡◌, ℕ, zero, suc, ◌+◌, ◌-◌, ◌<◌, ◌≤◌, max, Bool, true, false, cond, not, ◌&&◌, List, [], ◌∷◌, length, get_or, Some, None, Option, option_map, MatchOption, sym, refl, ap, ap₂, ◌∙◌, subst, inl, inr, add-zero, zero-add, add-one, arith}
-use denote.Param.Members.{Mut, Called}
-use Rattle.std.specs.Array.{IsFromFnResult, IsFromFnResultFrom}
+use Rattle.std.proofs.Common.{◌≡◌, ℕ, zero, suc, ◌+◌, ◌<◌, ◌≤◌, max, Bool, true, false, cond, not, ◌&&◌, List, [], ◌∷◌, length, get_or, set, Some, None, Option, option_map, MatchOption, sym, refl, ap, ap₂, ◌∙◌, inl, inr, zero-add, add-one, arith}
 use Rattle.std.specs.Ordering.{ord_max, nat_cmp}
 use Rattle.std.proofs.lemmas.Bool.Decides.{nat_tests}
 use Rattle.std.specs.List.{range_with_len, find, list_all}
@@ -47,23 +45,13 @@ booked_there before after o t true h yes' room = (h.1, h.2)
 booked_there before after o t false h yes' room =
     absurd (both_ways _ h.0 (and_from _ _ yes' (ap not (room_not_over before.interval o.class t o.busy (count before) (units_of before) before.positive before.small room))))
 
--- what a closure that changes nothing gave at each number
-module _ {F : Type 0} (g : Mut F (ℕ × Unit {0}) Bool) (f : F) (n : ℕ) (test : ℕ → Bool) (each : (x : ℕ) (y : Bool) (q : F) → Called g f (x, tt) y q → (q ≡ f) × (x < n → y ≡ test x)) (ys : List Bool) where
-  made_from : (m i : ℕ) → IsFromFnResultFrom g f ys i m → (k : ℕ) → k < m → i + k < n → get_or ys (i + k) false ≡ test (i + k)
-  made_from zero i made k l h = absurd (omega arith)
-  made_from (suc m) i made k l h =
-      let one = each i made.1 made.0 made.3 in
-      elim (cases_eq k 0) [
-        | inl e ↦ rw (e, add-zero) (made.2.1 false ∙ one.1 (omega arith))
-        | inr z ↦
-            let at : i + k ≡ (i + 1) + (k - 1) = omega arith in
-            rw at (made_from m (i + 1) (subst (λ x. IsFromFnResultFrom g x ys (i + 1) m) one.0 made.4) (k - 1) (omega arith) (omega arith))
-      ]
-
-  pub made_at : (m : ℕ) → n ≤ m → IsFromFnResult g f ys m → (q : ℕ) → q < n → get_or ys q false ≡ test q
-  made_at m few made q h =
-      let here : 0 + q ≡ q = omega arith in
-      rw here at (made_from m 0 made.each q (omega arith) (omega arith))
+-- one more mark
+pub marks_more : (f : ℕ → Bool) (marks : List Bool) (q : ℕ) (v : Bool) → q < length marks → v ≡ f q → ((p : ℕ) → p < q → get_or marks p false ≡ f p) →
+    (p : ℕ) → p < q + 1 → get_or (set marks q v) p false ≡ f p
+marks_more f marks q v h is inv p l = elim (cases_eq p q) [
+  | inl e ↦ rw e (get_or-set_same marks q v false h ∙ is)
+  | inr n ↦ get_or-set_other marks q p v false n ∙ inv p (omega arith)
+]
 
 -- the first of so many numbers
 pub found_first : (p : ℕ → Bool) (m t : ℕ) → find p (range_with_len t m) ≡ first p t m
@@ -91,6 +79,13 @@ none_either false o e = e
 pub unmarked_fewer : (marks : List Bool) (n m : ℕ) (before now : ℕ → Option ℕ) → n ≤ m → ((q : ℕ) → n ≤ q → before q ≡ None) → Unmarked marks m before now → Unmarked marks n before now
 unmarked_fewer marks n m before now few beyond is q = elim (cases_lt q n) [
   | inl l ↦ is q ∙ ap (λ b. cond (b && get_or marks q false) None (before q)) (lt-ltb q m (omega arith) ∙ sym (lt-ltb q n l))
+  | inr g ↦ is q ∙ (none_either _ _ (beyond q g) ∙ sym (none_either _ _ (beyond q g)))
+]
+
+-- the same the other way round
+pub unmarked_wider : (marks : List Bool) (n m : ℕ) (before now : ℕ → Option ℕ) → n ≤ m → ((q : ℕ) → n ≤ q → before q ≡ None) → Unmarked marks n before now → Unmarked marks m before now
+unmarked_wider marks n m before now few beyond is q = elim (cases_lt q n) [
+  | inl l ↦ is q ∙ ap (λ b. cond (b && get_or marks q false) None (before q)) (lt-ltb q n l ∙ sym (lt-ltb q m (omega arith)))
   | inr g ↦ is q ∙ (none_either _ _ (beyond q g) ∙ sym (none_either _ _ (beyond q g)))
 ]
 

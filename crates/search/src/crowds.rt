@@ -4,7 +4,6 @@ ghost use Rattle.model.specs.Search.{crowded};
 ghost use Rattle.search.specs.Boards.{size, hw, placed_on};
 
 use crate::board::Board;
-use std::array;
 
 impl Board<'_> {
     // Whether one at `time` crowds out another.
@@ -29,6 +28,10 @@ impl Board<'_> {
         requires { op < size self.now }
         ensures { (q : ℕ) → q < size self.now → slice_index_or result q false ≡ crowded (hw self.now) self.now.table.interval (placed_on self.now) (size self.now) op time q }
     {
-        array::from_fn(|q| q < self.task.timings.len() && self.is_crowded(op, time, q))
+        let mut marks = [false; 32];
+        for q in 0..self.task.timings.len() {
+            marks[q] = self.is_crowded(op, time, q);
+        }
+        marks
     }
 }

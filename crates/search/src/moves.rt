@@ -24,7 +24,7 @@ impl Board<'_> {
         ensures time { Unmarked marks.now 32 (placed_on self.old) (placed_on self.new) }
         ensures same { Same self.old self.new }
     {
-        for (op, marked) in marks.iter().enumerate() {
+        for (op, marked) in marks[..self.task.timings.len()].iter().enumerate() {
             if *marked {
                 self.remove(op);
             }

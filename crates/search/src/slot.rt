@@ -10,7 +10,6 @@ ghost use Rattle.search.specs.Boards.{size, placed_on, early_on, slot_on};
 use crate::board::Board;
 use model::Timing;
 use reservation::ReservationTable;
-use std::array;
 
 // The first time of the window at which an operation fits beside those placed.
 fn window(table: &ReservationTable, timing: Timing, from: usize) -> Option<usize>
@@ -82,6 +81,10 @@ impl Board<'_> {
         requires { op < 32 }
         ensures { (q : ℕ) → q < size self.now → slice_index_or result q false ≡ torn_by (weights_of self.now.task.now.weights) (placed_on self.now) op q }
     {
-        array::from_fn(|q| q < self.task.timings.len() && self.is_torn(op, q))
+        let mut marks = [false; 32];
+        for q in 0..self.task.timings.len() {
+            marks[q] = self.is_torn(op, q);
+        }
+        marks
     }
 }
