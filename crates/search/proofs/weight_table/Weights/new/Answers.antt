@@ -10,5 +10,5 @@ loop-edge-preserved c =
     let es = c.args.edges.now in
     let i = c.loop-edge.edge-index in
     let fits = fits_at 32 es i c.requires.fit c.loop-edge-test.true in
-    woven_more c.args.interval es i _ c.loop-edge.between c.loop-edge-test.true c.loop-edge.invariant fits.from fits.to c.most.result c.of-weight.result.raised
-    c.of-weight.ensures c.of-weight.result.most c.of-weight.result.some c.most.ensures
+    woven_more c.args.interval es i _ c.loop-edge.between c.loop-edge-test.true c.loop-edge.invariant fits.from fits.to c.max.result c.of-weight.result.raised
+    c.of-weight.ensures c.of-weight.result.most c.max.ensures
