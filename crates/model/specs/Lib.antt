@@ -2,6 +2,7 @@ pub mod Loop
 pub mod Edges
 pub mod Schedule
 pub mod Shapes
+pub mod Printed
 pub mod Lines
 pub mod Questions
 pub mod MachineText

@@ -1,8 +1,16 @@
 // The words for codes and layers, as texts and answers write them.
+ghost use Rattle.std.specs.Prelude.{Some};
+ghost use Rattle.std.specs.Fmt.{padded};
+ghost use Rattle.model.specs.Printed.{code_word, layer_word};
+
 use crate::{Code, Layer};
 use std::fmt;
 
 impl fmt::Display for Code {
+    ghost output = { λ code. Some (code_word code) };
+
+    ghost styled_output = { λ code spec. Some (padded spec (code_word code)) };
+
     fn fmt<W: fmt::Write>(&self, f: &mut fmt::Formatter<W>) -> fmt::Result {
         f.pad(match self {
             Code::Load => "load",
@@ -16,6 +24,10 @@ impl fmt::Display for Code {
 }
 
 impl fmt::Display for Layer {
+    ghost output = { λ layer. Some (layer_word layer) };
+
+    ghost styled_output = { λ layer spec. Some (padded spec (layer_word layer)) };
+
     fn fmt<W: fmt::Write>(&self, f: &mut fmt::Formatter<W>) -> fmt::Result {
         f.pad(match self {
             Layer::Text => "text",
