@@ -1,12 +1,24 @@
 // The words of a line, one after another, each behind one space.
+ghost use Rattle.std.specs.Prelude.{◌≡◌, []};
 ghost use Rattle.std.specs.Iterator.{YieldsFirstRef, item_count};
 ghost use Rattle.script.specs.Script.{words_of};
+ghost use Rattle.script.specs.Taken.{taken};
 
 use reader::reader::solid_len;
 
 #[derive(Clone, Copy)]
 pub struct Words<'a> {
     pub bytes: &'a [u8],
+}
+
+impl<'a> Words<'a> {
+    // The next word; none behind the last.
+    pub fn next_word(&mut self) -> Option<&'a [u8]>
+        ensures word { words_of self.old.bytes.now ≡ taken result (words_of self.new.bytes.now) }
+        ensures finished { result ≡ None → words_of self.new.bytes.now ≡ [] }
+    {
+        self.next()
+    }
 }
 
 impl<'a> Iterator for Words<'a> {
