@@ -3,4 +3,4 @@ use Rattle.engine_writes.proofs.Lists.{pushed_list}
 use Rattle.engine_writes.proofs.dues.Dues.push.Goals as goal
 
 pub returns : goal.returns
-returns c = pushed_list c.args.self.now.lists c.args.due c.args.r _ _ _ (omega arith) c.push.ensures
+returns c = pushed_list c.args.self.now.places c.args.self.now.counts c.args.due c.args.r _ _ (omega arith) (omega arith) c.put.ensures.more c.put.ensures.full
