@@ -1,3 +1,4 @@
+pub mod Kept
 pub mod Graphs
 pub mod Noted
 pub mod Rounds

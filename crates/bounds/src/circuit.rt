@@ -12,6 +12,7 @@ ghost use Rattle.bounds.specs.Passing.{RoundTrip};
 
 use crate::Path;
 use crate::graph::{Graph, Relaxation};
+use crate::marking::Marks;
 use few::Few;
 
 impl<'a> Graph<'a> {
@@ -56,11 +57,11 @@ impl<'a> Graph<'a> {
 
 impl<'a> Relaxation<'a> {
     // The marks of the first rounds, as many as operations.
-    fn trace(&self) -> Few<[Option<usize>; 32], 32>
+    fn trace(&self) -> Few<Marks, 32>
         ensures { Traced self.now.graph.edges.now self.now.interval self.now.graph.count (held result) }
     {
         let mut old = [0; 32];
-        let mut rows = Few::new([None; 32]);
+        let mut rows = Few::new(Marks::none());
         for _ in 0..self.graph.count {
             let row = self.round(&old);
             rows.push(row.marks).unwrap();
@@ -77,7 +78,7 @@ impl<'a> Relaxation<'a> {
         let mut path = Path::new();
         let mut at = start;
         for marks in self.trace().as_slice().iter().rev() {
-            if let Some(number) = marks[at] {
+            if let Some(number) = marks.at(at) {
                 path.push(number);
                 at = self.graph.edges[number].to;
             }

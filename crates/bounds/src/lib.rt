@@ -7,6 +7,7 @@ mod circuit;
 mod graph;
 mod height;
 mod limits;
+mod marking;
 mod path;
 mod relax;
 mod resource;

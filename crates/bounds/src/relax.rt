@@ -6,6 +6,7 @@ ghost use Rattle.graph_laws.specs.Trails.{value};
 ghost use Rattle.bounds.specs.Rounds.{Low, RoundOf, Settles, FirstOf};
 
 use crate::graph::{Graph, Relaxation};
+use crate::marking::Marks;
 use crate::row::Row;
 use model::Edge;
 
@@ -20,7 +21,7 @@ pub struct FirstSettled {
 fn first_raised(row: &Row) -> Option<usize>
     ensures { result ≡ position is_some row.now.marks }
 {
-    row.marks.iter().position(|mark| mark.is_some())
+    row.marks.first()
 }
 
 impl<'a> Relaxation<'a> {
@@ -39,12 +40,12 @@ impl<'a> Relaxation<'a> {
         ensures { RoundOf self.now.graph.edges.now self.now.interval old.now result }
     {
         let mut values = *old;
-        let mut marks = [None; 32];
+        let mut marks = Marks::none();
         for (number, e) in self.graph.edges.iter().enumerate() {
             let better = self.offered(e, old);
             if values[e.from] < better {
                 values[e.from] = better;
-                marks[e.from] = Some(number);
+                marks.set(e.from, number);
             }
         }
         Row { values, marks }

@@ -6,20 +6,20 @@ use Rattle.bounds.proofs.graph.Relaxation.best_walk.Goals as goal
 
 pub offset_bounds-self-number : goal.offset_bounds-self-number
 offset_bounds-self-number c =
-    let some : noted c.in-Some.marks.now c.loop-marks.at ≡ Some c.in-Some-marks.number = search rules in
-    let there = edge_taken c.args.self.now c.args.start _ _ _ _ _ c.in-Some.ensures.steps c.loop-marks.invariant.2 c.in-Some-marks.number some in
+    let some : noted c.in-Some.marks.now c.loop-marks.at ≡ Some c.in-Some-at.number = search rules in
+    let there = edge_taken c.args.self.now c.args.start _ _ _ _ _ c.in-Some.ensures.steps c.loop-marks.invariant.2 c.in-Some-at.number some in
     search rules
 
 pub bounds-self-number : goal.bounds-self-number
-bounds-self-number c = edge_taken c.args.self.now c.args.start _ _ _ _ _ c.in-Some.ensures.steps c.loop-marks.invariant.2 c.in-Some-marks.number (search rules)
+bounds-self-number c = edge_taken c.args.self.now c.args.start _ _ _ _ _ c.in-Some.ensures.steps c.loop-marks.invariant.2 c.in-Some-at.number (search rules)
 
-pub loop-marks-preserved-in-Some-marks : goal.loop-marks-preserved-in-Some-marks
-loop-marks-preserved-in-Some-marks c =
-    let some : noted c.in-Some.marks.now c.loop-marks.at ≡ Some c.in-Some-marks.number = search rules in (
+pub loop-marks-preserved-in-Some-at : goal.loop-marks-preserved-in-Some-at
+loop-marks-preserved-in-Some-at c =
+    let some : noted c.in-Some.marks.now c.loop-marks.at ≡ Some c.in-Some-at.number = search rules in (
       tt,
       tt,
-      subst (λ xs. Trail c.args.self.now c.args.start xs (edge c.args.self.now.graph.edges.now c.in-Some-marks.number).to c.next.new.self.iter.rest.now) (sym c.push.ensures)
-          (goes_on c.args.self.now c.args.start _ _ _ _ _ c.in-Some.ensures.steps c.loop-marks.invariant.2 c.in-Some-marks.number some),
+      subst (λ xs. Trail c.args.self.now c.args.start xs (edge c.args.self.now.graph.edges.now c.in-Some-at.number).to c.next.new.self.iter.rest.now) (sym c.push.ensures)
+          (goes_on c.args.self.now c.args.start _ _ _ _ _ c.in-Some.ensures.steps c.loop-marks.invariant.2 c.in-Some-at.number some),
     )
 
 pub loop-marks-preserved : goal.loop-marks-preserved
