@@ -117,22 +117,26 @@ fn show_operation(
     operation: &Operation,
     statements: &[Statement],
 ) -> io::Result<()> {
-    let name = name_at(statements, number);
-    let mut writes = String::from_str(heap, name)?;
-    let mut reads = String::new(heap);
-    match operation {
-        Operation::Load(cell) => reads = cell_text(heap, *cell)?,
-        Operation::Store(value, cell) => {
-            writes = cell_text(heap, *cell)?;
-            reads = operand_text(heap, *value, statements)?;
+    let stored = match operation {
+        Operation::Store(_, cell) => Some(cell_text(heap, *cell)?),
+        _ => None,
+    };
+    let writes = match &stored {
+        Some(cell) => cell.as_str(),
+        None => name_at(statements, number),
+    };
+    let reads = match operation {
+        Operation::Load(cell) => cell_text(heap, *cell)?,
+        Operation::Store(value, _) | Operation::Move(value) => {
+            operand_text(heap, *value, statements)?
         }
         Operation::Binary(_, left, right) => {
-            reads = operand_text(heap, *left, statements)?;
-            reads.push_str(", ")?;
-            reads.push_str(operand_text(heap, *right, statements)?.as_str())?;
+            let mut both = operand_text(heap, *left, statements)?;
+            both.push_str(", ")?;
+            both.push_str(operand_text(heap, *right, statements)?.as_str())?;
+            both
         }
-        Operation::Move(value) => reads = operand_text(heap, *value, statements)?,
-    }
+    };
     let code = operation.code();
     writeln!(out, "  {number:<3} {code:<6} {writes:<18} {reads}")
 }
