@@ -1,10 +1,14 @@
 -- The tokens of a line, one after another.
-use Rattle.std.proofs.Common.{◌≡◌, ℕ, suc, ◌+◌, ◌-◌, ◌<◌, true, false, List, [], ◌∷◌, take, drop, sym, refl, ap, ◌∙◌, ⊎_elim, one-add, arith}
+use Rattle.std.proofs.Common.{◌≡◌, ℕ, suc, ◌+◌, ◌-◌, ◌<◌, true, false, List, [], ◌∷◌, length, take, drop, Some, None, Option, sym, refl, ap, ◌∙◌, ⊎_elim, one-add, arith}
 use Rattle.std.proofs.lemmas.Bool.{cases_Bool, cases_lt}
 use Rattle.std.proofs.lemmas.List.{drop-drop}
 use Rattle.std.specs.List.{prefix_len}
+use Rattle.std.specs.Bool.{⊤}
+use Rattle.std.specs.Option.{MatchOption}
+use Rattle.std.specs.Iterator.{YieldsFirstBy, MakesProgress, item_count}
 use Rattle.model.specs.Lines.{space, solid, lexemes, Lexeme, lexeme, run}
-use Rattle.reader.specs.Seen.{left}
+use Rattle.reader.specs.declared.token.Token.{Token}
+use Rattle.reader.specs.Seen.{seen, left, taken}
 
 skips : (line at : ℕ) (bs : List ℕ) → lexemes line at true bs ≡ lexemes line (at + prefix_len space bs) true (drop (prefix_len space bs) bs)
 skips line at [] = refl
@@ -80,3 +84,13 @@ module _ (line : ℕ) (s : List ℕ) (at b e : ℕ) (eb : b ≡ at + prefix_len 
   pub stays : b ≡ e → left line s e ≡ []
   unfolding left
   stays q = sym (ap (left line s) q) ∙ sym skipped ∙ finished q
+
+-- the next token as the first of what is left
+pub next_of : (ts us : List Lexeme) (r : Option Token) → ts ≡ taken r us → (r ≡ None → us ≡ []) → MatchOption r ((ts ≡ []) × (us ≡ [])) (λ t. ts ≡ seen t ∷ us)
+next_of ts us None e f = (e ∙ f refl, f refl)
+next_of ts us (Some t) e f = e
+
+-- who takes the first of what is left comes nearer to the end
+pub nearer : {S A B : Type 0} (view : A → B) (rest : S → List B) (s : S) (r : Option A) (t : S) → YieldsFirstBy view rest s r t → MakesProgress (λ _. ⊤) (item_count rest) s r t
+nearer view rest s None t h = record { on = λ _. tt; keeps = tt; rests = λ _. tt }
+nearer view rest s (Some x) t h = let less = ap length h in record { on = λ _. (tt, tt, omega arith); keeps = tt; rests = λ _. tt }

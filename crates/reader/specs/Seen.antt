@@ -1,5 +1,5 @@
 -- The reader's tokens as the definitions have them.
-use Rattle.std.specs.Prelude.{ℕ, Bool, true, not, List, drop, Some, None, Option, ◌==◌}
+use Rattle.std.specs.Prelude.{ℕ, Bool, true, not, List, ◌∷◌, drop, Some, None, Option, ◌==◌}
 use Rattle.std.specs.Borrow.{Bor}
 use Rattle.model.specs.Shapes.{Kind, word, number, operand, other}
 use Rattle.model.specs.Lines.{Line, Lexeme, lexemes}
@@ -68,6 +68,11 @@ number_in (Other p) = None
 -- the tokens of a line of which `at` bytes have been read
 unfoldable pub left : ℕ → List ℕ → ℕ → List Lexeme
 left line text at = lexemes line at true (drop at text)
+
+-- a token, if there was one, in front of others
+abbrev pub taken : Option Token → List Lexeme → List Lexeme
+taken None rest = rest
+taken (Some t) rest = seen t ∷ rest
 
 -- a byte that ends no line
 abbrev pub inside : ℕ → Bool

@@ -1,9 +1,9 @@
 // The tokens of a line, one after another.
-ghost use Rattle.std.specs.Prelude.{◌≡◌, ◌+◌, ◌^◌, ◌<◌, ◌≤◌, length};
+ghost use Rattle.std.specs.Prelude.{◌≡◌, ◌+◌, ◌^◌, ◌<◌, ◌≤◌, [], length, None};
 ghost use Rattle.std.specs.List.{prefix_len};
 ghost use Rattle.std.specs.Iterator.{YieldsFirstBy, item_count};
 ghost use Rattle.model.specs.Lines.{space, solid, lexeme, tokens};
-ghost use Rattle.reader.specs.Seen.{seen, left};
+ghost use Rattle.reader.specs.Seen.{seen, left, taken};
 
 use crate::shapes::{is_earlier, is_name, is_negative, is_number};
 use crate::token::{Earlier, Negative, Number, Operand, Part, Token, Word};
@@ -62,6 +62,23 @@ impl<'a> Reader<'a> {
     {
         Reader { text, line, at: 0 }
     }
+
+    // The next token; none at the end of the line.
+    pub fn next_token(&mut self) -> Option<Token<'a>>
+        ensures token { left self.old.line self.old.text.now self.old.at ≡ taken result (left self.old.line self.old.text.now self.new.at) }
+        ensures finished { result ≡ None → left self.old.line self.old.text.now self.new.at ≡ [] }
+        ensures text { self.new.text.now ≡ self.old.text.now }
+        ensures line { self.new.line ≡ self.old.line }
+    {
+        let text = self.text;
+        let start = self.at + space_len(&text[self.at..]);
+        let end = start + solid_len(&text[start..]);
+        self.at = end;
+        if start == end {
+            return None;
+        }
+        Some(token_of(&text[start..end], self.line, start))
+    }
 }
 
 impl<'a> Iterator for Reader<'a> {
@@ -72,13 +89,6 @@ impl<'a> Iterator for Reader<'a> {
     ghost remaining = { item_count (λ s. left s.line s.text.now s.at) };
 
     fn next(&mut self) -> Option<Token<'a>> {
-        let text = self.text;
-        let start = self.at + space_len(&text[self.at..]);
-        let end = start + solid_len(&text[start..]);
-        self.at = end;
-        if start == end {
-            return None;
-        }
-        Some(token_of(&text[start..end], self.line, start))
+        self.next_token()
     }
 }
