@@ -58,7 +58,7 @@ impl<'a> Iterator for Lines<'a> {
             return None;
         }
         let number = self.number;
-        let end = line_len(text);
+        let end = line_end(text, 0);
         self.rest = tail(text, end + 1);
         self.number += 1;
         Some((number, &text[..end]))
