@@ -2,7 +2,7 @@
 use Rattle.std.specs.Prelude.{ℕ, Bool, true, not, List, ◌∷◌, drop, Some, None, Option, ◌==◌}
 use Rattle.std.specs.Borrow.{Bor}
 use Rattle.model.specs.Shapes.{Kind, word, number, operand, other}
-use Rattle.model.specs.Lines.{Line, Lexeme, lexemes}
+use Rattle.model.specs.Lines.{Line, Lexeme, lexemes, no_token}
 use Rattle.reader.specs.declared.token.Part.{Part}
 use Rattle.reader.specs.declared.token.Word.{Word as OwnWord}
 use Rattle.reader.specs.declared.token.Number.{Number as OwnNumber}
@@ -64,6 +64,14 @@ number_by (Earlier e) = None
 abbrev pub number_in : Token → Option OwnNumber
 number_in (Operand o) = number_by o
 number_in (Other p) = None
+
+abbrev pub shown : Option Token → Option Lexeme
+shown None = None
+shown (Some t) = Some (seen t)
+
+abbrev pub or_none : Option Lexeme → Lexeme
+or_none None = no_token
+or_none (Some t) = t
 
 -- the tokens of a line of which `at` bytes have been read
 unfoldable pub left : ℕ → List ℕ → ℕ → List Lexeme

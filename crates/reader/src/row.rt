@@ -1,11 +1,11 @@
 // The tokens of a line, as far as a form can reach.
 ghost use Rattle.std.specs.Prelude.{◌≡◌, map, take};
 ghost use Rattle.few.specs.Held.{held};
-ghost use Rattle.model.specs.Lines.{tokens};
-ghost use Rattle.reader.specs.Seen.{seen};
+ghost use Rattle.model.specs.Lines.{tokens, is_word, is_operand};
+ghost use Rattle.reader.specs.Seen.{seen, shown, or_none};
 
 use crate::reader::Reader;
-use crate::token::{Part, Token};
+use crate::token::{Operand, Part, Token};
 use few::Few;
 
 // No form has more than five tokens, so six tell whether a line has too many.
@@ -26,4 +26,40 @@ pub fn row_of<'a>(line: &'a [u8], number: usize) -> Row<'a>
         }
     }
     row
+}
+
+// The part of the text that a token is; an empty one for none.
+pub fn part_of<'a>(t: Option<Token<'a>>) -> Part<'a>
+    ensures text { result.text.now ≡ (or_none (shown t.entry)).bytes }
+    ensures line { result.line ≡ (or_none (shown t.entry)).line }
+    ensures column { result.column ≡ (or_none (shown t.entry)).column }
+{
+    match t {
+        Some(token) => token.part(),
+        None => Part {
+            text: b"",
+            line: 0,
+            column: 0,
+        },
+    }
+}
+
+pub fn text_of<'a>(t: Option<Token<'a>>) -> &'a [u8]
+    ensures { result.now ≡ (or_none (shown t.entry)).bytes }
+{
+    part_of(t).text
+}
+
+// Whether there is a token with the shape of a name.
+pub fn is_word(t: Option<Token<'_>>) -> bool
+    ensures { result ≡ is_word (or_none (shown t.entry)).kind }
+{
+    matches!(t, Some(Token::Operand(Operand::Word(_))))
+}
+
+// Words and numbers are operands too.
+pub fn is_operand(t: Option<Token<'_>>) -> bool
+    ensures { result ≡ is_operand (or_none (shown t.entry)).kind }
+{
+    matches!(t, Some(Token::Operand(_)))
 }

@@ -2,7 +2,8 @@
 ghost use Rattle.std.specs.Prelude.{◌≡◌, not, ◌&&◌, map, position};
 ghost use Rattle.model.specs.Shapes.{is_reserved, every, has_some};
 ghost use Rattle.model.specs.MachineText.{Machine, machine_rules, names_class, code_number};
-ghost use Rattle.reader.specs.Seen.{seen, word_seen, number_seen};
+ghost use Rattle.reader.specs.Seen.{seen, shown, or_none, word_seen, number_seen};
+ghost use Rattle.texts.specs.declared.fault.TextFault.TheVariants.{OutOfRange, WrongName};
 ghost use Rattle.texts.specs.Seen.{told, entries_seen, classes_seen, unit_step, op_step};
 ghost use Rattle.texts.specs.Forms.{UnitFormed, OpFormed, called};
 
@@ -13,7 +14,7 @@ use crate::name::Name;
 use crate::record::Record;
 use few::Few;
 use model::{Code, Timing};
-use reader::row::row_of;
+use reader::row::{part_of, row_of};
 use reader::shapes::all_between;
 use reader::token::Token;
 use reader::words::{find_code, is_reserved};
@@ -70,6 +71,20 @@ fn is_free(classes: &[Class], word: &[u8]) -> bool
     ensures { result ≡ (not (is_reserved word.now) && not (names_class (classes_seen classes.now) word.now)) }
 {
     !is_reserved(word) && place_of(classes, word).is_none()
+}
+
+// A number out of range.
+pub fn out_of_range(t: Option<Token<'_>>) -> TextFault
+    ensures { result ≡ OutOfRange (or_none (shown t.entry)).line (or_none (shown t.entry)).column }
+{
+    TextFault::out_of_range(part_of(t))
+}
+
+// A name or a code that may not stand here.
+pub fn wrong_name(t: Option<Token<'_>>) -> TextFault
+    ensures { result ≡ WrongName (or_none (shown t.entry)).line (or_none (shown t.entry)).column }
+{
+    TextFault::wrong_name(part_of(t))
 }
 
 fn unit_line(m: &mut Entries, number: usize, said: UnitLine<'_>) -> Result<(), TextFault>
