@@ -1,6 +1,7 @@
 -- The first tokens of a line say whether it has a form, and what stands in it.
-use Rattle.std.proofs.Common.{◌≡◌, ℕ, zero, suc, ◌<◌, ◌≤◌, Bool, true, false, ◌&&◌, leb, List, [], ◌∷◌, length, get_or, take, refl, ap, arith}
-use Rattle.std.proofs.lemmas.Bool.{and_parts, leb-true}
+use Rattle.std.proofs.Common.{◌≡◌, ℕ, zero, suc, ◌+◌, ◌<◌, ◌≤◌, Bool, true, false, ◌&&◌, leb, List, [], ◌∷◌, ◌++◌, length, get_or, take, refl, sym, ap, ◌∙◌, ⊎_elim, arith}
+use Rattle.std.proofs.lemmas.Bool.{and_parts, leb-true, cases_lt}
+use Rattle.std.proofs.lemmas.List.{append-nil, take_all, take_at}
 use Rattle.model.specs.Shapes.{between, is_name}
 use Rattle.model.specs.Lines.{Lexeme, Want, fits, fits_all, tok}
 
@@ -16,6 +17,16 @@ tok_take ts zero i h = absurd (omega arith)
 tok_take [] (suc n) i h = refl
 tok_take (t ∷ ts) (suc n) zero h = refl
 tok_take (t ∷ ts) (suc n) (suc i) h = tok_take ts n i (omega arith)
+
+-- the first k, taken one after another: all k, or fewer where there are no more
+pub first_few : {A : Type 0} (xs ys ts : List A) (n k : ℕ) → xs ++ ys ≡ ts → length xs + n ≡ k → (0 < n → ys ≡ []) → xs ≡ take k ts
+first_few xs ys ts n k e f g =
+    ⊎_elim
+    (λ (p : 0 < n).
+    let all : xs ≡ ts = sym (append-nil xs) ∙ ap (λ zs. xs ++ zs) (sym (g p)) ∙ e in
+    all ∙ sym (take_all k ts (omega (arith, ap length all))))
+    (λ (p : n ≤ 0). sym (take_at xs ys k (omega arith)) ∙ ap (take k) e)
+    (cases_lt 0 n)
 
 pub name_short : (w : List ℕ) → is_name w ≡ true → length w ≤ 8
 name_short w e = let x = and_parts (between 1 8 (length w)) _ e in let y = and_parts (leb 1 (length w)) (leb (length w) 8) x.0 in leb-true (length w) 8 y.1

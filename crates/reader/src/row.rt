@@ -15,15 +15,10 @@ pub type Row<'a> = Few<Token<'a>, 6>;
 pub fn row_of<'a>(line: &'a [u8], number: usize) -> Row<'a>
     ensures { map seen (held result) ≡ take 6 (tokens (record { number = number; bytes = line.now })) }
 {
-    let mut row = Few::new(Token::Other(Part {
-        text: b"",
-        line: 0,
-        column: 0,
-    }));
-    for token in Reader::new(line, number) {
-        if row.push(token).is_err() {
-            break;
-        }
+    let mut row = Few::new(Token::Other(part_of(None)));
+    for token in Reader::new(line, number).take(6) {
+        // There is room for six.
+        let _ = row.push(token);
     }
     row
 }
