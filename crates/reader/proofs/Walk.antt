@@ -1,9 +1,9 @@
 -- The first tokens of a line say whether it has a form, and what stands in it.
-use Rattle.std.proofs.Common.{◌≡◌, ℕ, zero, suc, ◌+◌, ◌<◌, ◌≤◌, Bool, true, false, ◌&&◌, leb, List, [], ◌∷◌, ◌++◌, length, get_or, take, refl, sym, ap, ◌∙◌, ⊎_elim, arith}
+use Rattle.std.proofs.Common.{◌≡◌, ℕ, zero, suc, ◌+◌, ◌<◌, ◌≤◌, Bool, true, false, cond, ◌&&◌, leb, List, [], ◌∷◌, ◌++◌, length, get_or, take, refl, sym, ap, ◌∙◌, ⊎_elim, arith}
 use Rattle.std.proofs.lemmas.Bool.{and_parts, leb-true, cases_lt}
 use Rattle.std.proofs.lemmas.List.{append-nil, take_all, take_at}
-use Rattle.model.specs.Shapes.{between, is_name}
-use Rattle.model.specs.Lines.{Lexeme, Want, fits, fits_all, tok}
+use Rattle.model.specs.Shapes.{between, is_name, kind_of}
+use Rattle.model.specs.Lines.{Line, Lexeme, Want, fits, fits_all, tok, tokens, lexemes, space, run}
 
 pub fits_take : (ws : List Want) (ts : List Lexeme) (n : ℕ) → length ws < n → fits_all ws (take n ts) ≡ fits_all ws ts
 fits_take ws ts zero h = absurd (omega arith)
@@ -27,6 +27,25 @@ first_few xs ys ts n k e f g =
     all ∙ sym (take_all k ts (omega (arith, ap length all))))
     (λ (p : n ≤ 0). sym (take_at xs ys k (omega arith)) ∙ ap (take k) e)
     (cases_lt 0 n)
+
+-- each token has the kind of its bytes
+abbrev Fit : Lexeme → Type 0
+Fit t = t.kind ≡ kind_of t.bytes
+
+fit_pick : (s f : Bool) (r : Lexeme) (xs ys : List Lexeme) → Fit r → ((j : ℕ) → Fit (tok xs j)) → ((j : ℕ) → Fit (tok ys j)) → (j : ℕ) → Fit (tok (cond s xs (cond f (r ∷ ys) ys)) j)
+fit_pick true f r xs ys h hx hy j = hx j
+fit_pick false true r xs ys h hx hy zero = h
+fit_pick false true r xs ys h hx hy (suc j) = hy j
+fit_pick false false r xs ys h hx hy j = hy j
+
+fit_lexemes : (line at : ℕ) (fresh : Bool) (bs : List ℕ) (i : ℕ) → Fit (tok (lexemes line at fresh bs) i)
+fit_lexemes line at fresh [] i = refl
+fit_lexemes line at fresh (b ∷ bs) i =
+    fit_pick (space b) fresh (run line at (b ∷ bs)) (lexemes line (at + 1) true bs) (lexemes line (at + 1) false bs) refl
+    (fit_lexemes line (at + 1) true bs) (fit_lexemes line (at + 1) false bs) i
+
+pub kind_fits : (l : Line) (i : ℕ) → (tok (tokens l) i).kind ≡ kind_of (tok (tokens l) i).bytes
+kind_fits l i = fit_lexemes l.number 0 true l.bytes i
 
 pub name_short : (w : List ℕ) → is_name w ≡ true → length w ≤ 8
 name_short w e = let x = and_parts (between 1 8 (length w)) _ e in let y = and_parts (leb 1 (length w)) (leb (length w) 8) x.0 in leb-true (length w) 8 y.1
