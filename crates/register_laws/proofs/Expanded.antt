@@ -1,5 +1,5 @@
 -- The expanded scheme keeps the law.
-use Rattle.std.proofs.Common.{◌≡◌, ℕ, zero, suc, ◌+◌, ◌-◌, ◌*◌, ◌/◌, ◌%◌, ◌<◌, ◌≤◌, ltb, List, [], ◌∷◌, length, get_or, sym, refl, ap, ◌∙◌, subst, inl, inr, mod-lt, add-mul, mul-le-mul_left, le-div_iff_mul-le, mul-one, mul-add, mul_comm, arith}
+use Rattle.std.proofs.Common.{◌≡◌, ℕ, zero, suc, ◌+◌, ◌-◌, ◌*◌, ◌/◌, ◌%◌, ◌<◌, ◌≤◌, max, ltb, List, [], ◌∷◌, length, get_or, take, sym, refl, ap, ◌∙◌, subst, inl, inr, mod-lt, add-mul, mul-le-mul_left, le-div_iff_mul-le, mul-one, mul-add, mul_comm, arith}
 use native.Mathlib.Nat.{div-add-mod}
 use Rattle.std.proofs.lemmas.Nat.{mul-add-lt, div-mul-add}
 use Rattle.std.proofs.lemmas.Bool.Decides.{nat_tests}
@@ -50,6 +50,14 @@ want_at_most k (l ∷ ls) (suc v) h = let r = want_at_most k ls v (omega arith) 
 pub some_want : (k : ℕ) (ls : List Life) → 1 ≤ greatest_want k ls
 some_want k [] = omega arith
 some_want k (l ∷ ls) = let r = some_want k ls in omega arith
+
+pub greatest_more : (k : ℕ) (ls : List Life) (v : ℕ) → v < length ls → greatest_want k (take (v + 1) ls) ≡ max (greatest_want k (take v ls)) (want k (get_or ls v no_life))
+greatest_more k [] v h = let f : ⊥ = omega arith in absurd f
+greatest_more k (l ∷ ls) zero h = omega arith
+greatest_more k (l ∷ ls) (suc v) h =
+    let r = greatest_more k ls v (omega arith) in
+    let e : suc v + 1 ≡ suc (v + 1) = omega arith in
+    ap (λ n. greatest_want k (take n (l ∷ ls))) e ∙ omega arith
 
 -- U registers for each variable keep instances apart if no life wants more
 module _ (t : Table) (U : ℕ) (some : 0 < t.interval) (turns : 1 ≤ U)

@@ -1,8 +1,9 @@
 -- The rotating scheme keeps the law.
-use Rattle.std.proofs.Common.{◌≡◌, ℕ, zero, suc, ◌+◌, ◌-◌, ◌*◌, ◌/◌, ◌%◌, ◌<◌, ◌≤◌, true, ltb, List, [], ◌∷◌, length, get_or, take, take_all, sym, refl, ap, ◌∙◌, subst, inl, inr, le_trans, le-div_iff_mul-le, div-mul-le_self, arith}
+use Rattle.std.proofs.Common.{◌≡◌, ℕ, zero, suc, ◌+◌, ◌-◌, ◌*◌, ◌/◌, ◌%◌, ◌<◌, ◌≤◌, Bool, true, cond, ◌&&◌, ltb, leb, List, [], ◌∷◌, length, get_or, take, take_all, sym, refl, ap, ◌∙◌, subst, inl, inr, le_trans, le-div_iff_mul-le, div-mul-le_self, arith}
 use native.Mathlib.Nat.{add-mul-div_right}
+use mathlib.Core.Path.{fun_ext}
 use Rattle.std.proofs.lemmas.Bool.Decides.{nat_tests}
-use Rattle.std.proofs.lemmas.Bool.{cases_order, lt-ltb, cond-true}
+use Rattle.std.proofs.lemmas.Bool.{cases_Bool, cases_lt, cases_order, and_parts, ltb-true, lt-ltb, le-ltb, cond-true, cond-false}
 use Rattle.model.specs.declared.Life.{Life}
 use Rattle.model.specs.Lives.{Table, no_life, life, Limits}
 use Rattle.model.specs.Schemes.{Apart, Lawful, width, widths, rotating_need, rotating_base, rotating_with, rotating}
@@ -104,3 +105,28 @@ rotating_keeps t limits fits = record {
   variables = refl;
   apart = rotating_apart t limits fits;
 }
+
+-- only the bases of the variables count
+module _ (n : ℕ) (f g : ℕ → ℕ) (same : (v : ℕ) → v < n → f v ≡ g v) where
+  guarded : (v : ℕ) (b : Bool) (F : ℕ → ℕ) → cond (ltb v n && b) (F (f v)) 0 ≡ cond (ltb v n && b) (F (g v)) 0
+  guarded v b F = elim (cases_Bool (ltb v n && b)) [
+    | inl e ↦ cond-true _ _ 0 e ∙ ap F (same v (ltb-true v n (and_parts _ _ e).0)) ∙ sym (cond-true _ _ 0 e)
+    | inr e ↦ cond-false _ _ 0 e ∙ sym (cond-false _ _ 0 e)
+  ]
+
+  placed : (v i : ℕ) → (rotating_with n f).place v i ≡ (rotating_with n g).place v i
+  placed v i = elim (cases_lt v n) [
+    | inl h ↦ place_of n f v i h ∙ ap (λ a. (a + 63 * i) % 64) (same v h) ∙ sym (place_of n g v i h)
+    | inr h ↦ cond-false _ _ 0 (le-ltb v n h) ∙ sym (cond-false _ _ 0 (le-ltb v n h))
+  ]
+
+  pub rotating_same : rotating_with n f ≡ rotating_with n g
+  rotating_same = λ x. record {
+    file = 64;
+    need = rotating_need;
+    variables = n;
+    turns = 1;
+    place = fun_ext (λ v. fun_ext (placed v)) x;
+    name = fun_ext (λ v. fun_ext (λ c. fun_ext (λ r. guarded v (ltb c 1 && leb r 14) (λ a. (a + r) % 64)))) x;
+    resolve = (rotating_with n f).resolve;
+  }
