@@ -9,3 +9,5 @@ mod start;
 pub use fill::lives_of;
 pub use stages::stages_of;
 pub use start::in_sequence;
+// what in_sequence answers
+pub use timing::Schedule as Sequence;
