@@ -9,6 +9,6 @@ use few::Few;
 
 #[derive(Clone, Copy)]
 pub struct Loop {
-    pub(crate) body: Few<Operation, 32>,
+    pub body: Few<Operation, 32>,
     ghost sound: { sound_loop (operations_seen (held body)) ≡ true },
 }
