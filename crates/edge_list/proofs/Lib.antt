@@ -1,3 +1,4 @@
 pub mod Appending
 pub mod Reading
+pub mod Rows
 pub mod Whole

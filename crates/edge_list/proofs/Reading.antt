@@ -1,7 +1,6 @@
 -- An operation of the loop by its number, and its latency.
-use Rattle.std.proofs.Common.{◌≡◌, ℕ, ◌<◌, ◌≤◌, List, [], map, refl, length, get_or, pos, sym, ap, ◌∙◌, arith}
+use Rattle.std.proofs.Common.{◌≡◌, ℕ, ◌<◌, ◌≤◌, List, map, length, get_or, pos, sym, ap, ◌∙◌, arith}
 use Rattle.std.proofs.lemmas.List.{length-map, get_or-map, get_or_past}
-use Rattle.std.proofs.lemmas.Bool.{le-ltb}
 use Rattle.model.specs.Loop.{Loop as LoopBody, op, move, literal}
 use Rattle.model.specs.Edges.{between}
 use Rattle.model.specs.Soundness.{code_of, timing_of}
@@ -31,6 +30,3 @@ module _ (l : Loop) (m : Machine) where
 
   pub no_latency : (xs : List OwnOperation) → operations_seen xs ≡ loop_seen l → (p : ℕ) → length xs ≤ p → (hardware_of m l).latency p ≡ 0
   no_latency xs e p h = ap (λ t. t.latency) (get_or_past (map (λ o. timing_of (machine_seen m) (code_of o)) (loop_seen l)) p _ (omega (arith, length-map (loop_seen l) (λ o. timing_of (machine_seen m) (code_of o)), seen_count xs (loop_seen l) e)))
-
-pub not_later : (ops : LoopBody) (p q : ℕ) → q ≤ p → between ops p q ≡ []
-not_later ops p q h = rw (le-ltb p q h) refl

@@ -35,10 +35,9 @@ fn push_row(list: &mut Vec<Edge>, operations: &[Operation], p: usize, first: &Op
     requires room { RoomFor (row_in (operations_seen operations.now) p) list.old }
     ensures { Appended list.old list.new (row_in (operations_seen operations.now) p) }
 {
-    for (q, second) in operations.iter().enumerate() {
-        if p < q {
-            push_between(list, p, first, q, second);
-        }
+    let next = p + 1;
+    for (past, second) in operations[next..].iter().enumerate() {
+        push_between(list, p, first, next + past, second);
     }
 }
 
