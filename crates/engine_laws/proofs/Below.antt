@@ -1,8 +1,18 @@
 -- What holds of each number below another, of each number of a range, and of each item of a list.
-use Rattle.std.proofs.Common.{◌≡◌, ℕ, zero, suc, ◌+◌, ◌<◌, Bool, true, false, ◌&&◌, List, [], ◌∷◌, length, get_or, sym, refl, ap, ◌∙◌, inl, inr, arith}
-use Rattle.std.proofs.lemmas.Bool.{cases_eq, and_parts}
+use Rattle.std.proofs.Common.{◌≡◌, ℕ, zero, suc, ◌+◌, ◌<◌, Bool, true, false, ◌&&◌, List, [], ◌∷◌, length, get_or, sym, refl, ap, ◌∙◌, inl, inr, add-one, arith}
+use Rattle.std.proofs.lemmas.Bool.{cases_eq, and_from, and_left, and_right, and_parts}
 use Rattle.std.specs.List.{list_all, range_with_len}
 use Rattle.model.specs.Driving.{all_below}
+
+pub all_below_more : (p : ℕ → Bool) (n : ℕ) → all_below p n ≡ true → p n ≡ true → all_below p (n + 1) ≡ true
+all_below_more p n below here = rw add-one (and_from _ _ below here)
+
+pub all_below_no : (p : ℕ → Bool) (n b : ℕ) → b < n → p b ≡ false → false ≡ all_below p n
+all_below_no p zero b h no_here = absurd (omega arith)
+all_below_no p (suc n) b h no_here = elim (cases_eq b n) [
+  | inl e ↦ sym (and_right _ _ (rw e at no_here))
+  | inr z ↦ sym (and_left _ _ (sym (all_below_no p n b (omega arith) no_here)))
+]
 
 pub all_below_each : (p : ℕ → Bool) (n b : ℕ) → all_below p n ≡ true → b < n → p b ≡ true
 all_below_each p zero b all h = absurd (omega arith)

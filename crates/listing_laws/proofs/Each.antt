@@ -56,9 +56,12 @@ at_table f k (suc n) q r d h lq lr = elim (cases_eq q n) [
       at_table f k n q r d h (omega arith) lr
 ]
 
+pub joined_append : {A : Type 0} (xs ys : List (List A)) → flat_map (λ row. row) (xs ++ ys) ≡ flat_map (λ row. row) xs ++ flat_map (λ row. row) ys
+joined_append xs ys = flat_map-append (λ row. row) xs ys
+
 pub joined_each : {A : Type 0} (f : ℕ → List (List A)) (n : ℕ) → flat_map (λ row. row) (each f n) ≡ each (λ q. flat_map (λ row. row) (f q)) n
 joined_each f zero = refl
-joined_each f (suc n) = flat_map-append (λ row. row) (each f n) (f n) ∙ ap (λ xs. xs ++ flat_map (λ row. row) (f n)) (joined_each f n)
+joined_each f (suc n) = joined_append (each f n) (f n) ∙ ap (λ xs. xs ++ flat_map (λ row. row) (f n)) (joined_each f n)
 
 -- Where each has at most m.
 pub each_short : {A : Type 0} (f : ℕ → List A) (m n : ℕ) → ((q : ℕ) → length (f q) ≤ m) → length (each f n) ≤ n * m
