@@ -4,7 +4,7 @@ ghost use Rattle.model.specs.MachineText.{code_number};
 ghost use Rattle.model.specs.Codes.{slot_in};
 ghost use Rattle.code.specs.Seen.{slot_seen};
 ghost use Rattle.engine_laws.specs.Parts.{turned};
-ghost use Rattle.engine_slots.specs.Slots.{slot_of, SlotWithin};
+ghost use Rattle.engine_slots.specs.Slots.{slot_of, TimingsHeld, SlotWithin};
 ghost use Rattle.engine_slots.specs.Rows.{slot_at};
 
 use crate::names::Names;
@@ -12,6 +12,7 @@ use crate::program::Program;
 use crate::slot::Slot;
 use code::form::Code;
 use code::issue::Issue;
+use model::Timing;
 use registers::scheme::Scheme;
 
 // The number of a code.
@@ -29,29 +30,42 @@ fn code_number(code: model::Code) -> usize
     }
 }
 
-impl<C: Code, S: Scheme> Program<'_, C, S> {
-    fn resolve(&self, pass: usize, issue: Issue) -> Slot
-        ensures is { slot_of result ≡ slot_in (S.meaning self.now.scheme.now).resolve self.now.held.hardware.now.timings pass (slot_seen issue) }
-        ensures within { SlotWithin (S.meaning self.now.scheme.now).file result }
-    {
-        let names = Names {
-            scheme: self.scheme,
-            pass,
-        };
-        Slot {
-            operation: names.operation(&issue.operation),
-            stage: issue.stage,
-            target: names.target(issue.result),
-            timing: self.held.hardware.timings[code_number(issue.operation.code())],
-        }
+// What issues in a pass, with registers and its timing.
+fn resolve<S: Scheme>(scheme: &S, timings: &[Timing; 6], pass: usize, issue: Issue) -> Slot
+    ensures is { slot_of result ≡ slot_in (S.meaning scheme.now).resolve timings.now pass (slot_seen issue) }
+    ensures within { TimingsHeld timings.now → SlotWithin (S.meaning scheme.now).file result }
+{
+    let names = Names { scheme, pass };
+    Slot {
+        operation: names.operation(&issue.operation),
+        stage: issue.stage,
+        target: names.target(issue.result),
+        timing: timings[code_number(issue.operation.code())],
     }
+}
 
+// The slot that issues in a pass from a place of the code, if any does.
+pub fn fetch<C: Code, S: Scheme>(
+    code: &C,
+    scheme: &S,
+    timings: &[Timing; 6],
+    pass: usize,
+    place: usize,
+) -> Option<Slot>
+    ensures is { turned slot_of result ≡ turned (slot_in (S.meaning scheme.now).resolve timings.now pass) (C.issued code.now pass place) }
+    ensures within { TimingsHeld timings.now → IfSome result (SlotWithin (S.meaning scheme.now).file) }
+{
+    let issue = code.issue(pass, place)?;
+    Some(resolve(scheme, timings, pass, issue))
+}
+
+impl<C: Code, S: Scheme> Program<'_, C, S> {
     // The slot that issues in a pass from a place of the code, if any does.
     pub fn fetch(&self, pass: usize, place: usize) -> Option<Slot>
         ensures is { turned slot_of result ≡ slot_at (S.meaning self.now.scheme.now).resolve self.now.held.hardware.now.timings (C.issued self.now.code.now) pass place }
         ensures within { IfSome result (SlotWithin (S.meaning self.now.scheme.now).file) }
     {
-        let issue = self.code.issue(pass, place)?;
-        Some(self.resolve(pass, issue))
+        let timings = &self.held.hardware.timings;
+        fetch(self.code, self.scheme, timings, pass, place)
     }
 }
