@@ -67,6 +67,7 @@ impl Dues {
     pub fn clear(&mut self, cycle: usize)
         ensures cleared { lists_of self.new (cycle % 8) ≡ [] }
         ensures others { (x : ℕ) → (x ≢ cycle % 8) → lists_of self.new x ≡ lists_of self.old x }
+        ensures places { self.new.places ≡ self.old.places }
     {
         self.counts[cycle % AHEAD] = 0;
     }

@@ -1,5 +1,5 @@
 // Due writes land.
-ghost use Rattle.std.specs.Prelude.{◌≡◌, ℕ, ◌<◌, ◌≤◌, length};
+ghost use Rattle.std.specs.Prelude.{◌≡◌, ℕ, ◌%◌, ◌<◌, ◌≤◌, ◌≢◌, [], length};
 ghost use Rattle.std.specs.List.{All};
 ghost use Rattle.engine_laws.specs.Dues.{Registers};
 ghost use Rattle.engine_writes.specs.Files.{LandsOne, LandsListed, LandsBelow, LandsAll};
@@ -74,6 +74,9 @@ pub fn land<V: Copy + Drop>(
     requires kept { Registers (lists_of dues.old) file }
     ensures lands { LandsAll cycle waiting.now statuses.old.status values.old file (lists_of dues.old) statuses.new.status values.new (lists_of dues.new) }
     ensures kept { Registers (lists_of dues.new) file }
+    ensures cleared { lists_of dues.new (cycle % 8) ≡ [] }
+    ensures others { (x : ℕ) → (x ≢ cycle % 8) → lists_of dues.new x ≡ lists_of dues.old x }
+    ensures places { dues.new.places ≡ dues.old.places }
 {
     match dues.listed(cycle) {
         Some(list) => land_listed(cycle, list, waiting, statuses, values),

@@ -28,4 +28,7 @@ returns g c = record {
     | inl e ↦ rw (e, c.clear.ensures.cleared) (All-nil (λ r. r < c.args.file))
     | inr z ↦ rw (c.clear.ensures.others x z) (c.requires.kept x)
   ];
+  cleared = c.clear.ensures.cleared;
+  others = c.clear.ensures.others;
+  places = c.clear.ensures.places;
 }
