@@ -5,9 +5,9 @@ use Rattle.std.proofs.lemmas.List.{get_or_append_left, get_or_push}
 use Rattle.std.proofs.lemmas.List.Elements.{All-weaker}
 use Rattle.std.proofs.lemmas.List.Sums.{sum_by-cons, sum_by-le}
 use Rattle.model.specs.declared.Life.{Life}
-use Rattle.model.specs.Lives.{no_life, LifeWithin}
+use Rattle.model.specs.Lives.{Table, no_life, life, LifeWithin, Limits}
 use Rattle.model.specs.Schemes.{width, widths, rotating_base}
-use Rattle.register_laws.proofs.Rotating.{widths_more}
+use Rattle.register_laws.proofs.Rotating.{div_le_div_right, widths_more}
 
 pub width_small : (k : ℕ) (l : Life) → LifeWithin k l → width k l ≤ 4096
 width_small k l h = let d = div-le_self l.end k in omega arith
@@ -20,6 +20,14 @@ pub widths_fit : (k : ℕ) (ls : List Life) → All (LifeWithin k) ls → length
 widths_fit k ls each few =
     let small = All-weaker (LifeWithin k) (λ l. width k l ≤ 4096) (width_small k) ls each in
     omega (arith, sum_by-le (width k) 4096 ls small)
+
+module _ (t : Table) (limits : Limits t) (v : ℕ) (lt : v < length t.lives) where
+  pub stages : ((life t v).start / t.interval ≤ (life t v).end / t.interval) × ((life t v).start / t.interval < 8) × ((life t v).end / t.interval ≤ 4095) × (v < 32)
+  stages =
+      let w = limits.each v lt in
+      let some : 0 < t.interval = omega (arith, limits.some) in
+      let d = div-le_self (life t v).end t.interval in
+      (div_le_div_right t.interval some w.1, (div-lt_iff_lt-mul some).1 w.0, omega arith, omega (arith, limits.few))
 
 -- how far the layout has come
 pub record Laid (k : ℕ) (ls : List Life) (v below : ℕ) (bases : List ℕ) : Type 0 where

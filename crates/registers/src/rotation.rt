@@ -43,9 +43,10 @@ impl Rotating {
             .sum()
     }
 
-    // Gives each life its width, one behind the other.
-    fn laid_out(lives: &Lives) -> Rotating
-        ensures { rotating_meaning result ≡ rotating (table lives.now) }
+    // Gives each life its width, one behind the other: the scheme, and what all of them need.
+    fn laid_out(lives: &Lives) -> (Rotating, usize)
+        ensures meaning { rotating_meaning result.0 ≡ rotating (table lives.now) }
+        ensures need { result.1 ≡ rotating_need (table lives.now) }
     {
         let interval = lives.interval;
         let mut bases = Few::new(0);
@@ -55,7 +56,7 @@ impl Rotating {
             bases.push(base as u8).unwrap();
             below += width(interval, life);
         }
-        Rotating { bases }
+        (Rotating { bases }, below)
     }
 }
 
@@ -76,10 +77,11 @@ impl Scheme for Rotating {
         ensures fitted { Fitted rotating_meaning (λ s. (rotating_meaning s).place) self.old self.new (table lives.now) result }
         ensures formula { is_some result ≡ true → rotating_meaning self.new ≡ rotating (table lives.now) }
     {
-        if Rotating::need(lives) > FILE {
+        let (laid, need) = Rotating::laid_out(lives);
+        if need > FILE {
             return None;
         }
-        *self = Rotating::laid_out(lives);
+        *self = laid;
         Some(1)
     }
 
