@@ -1,15 +1,22 @@
 -- The minimum from its two parts.
-use Rattle.std.proofs.Common.{ℕ, ◌*◌, ◌<◌, ◌≤◌, cond, eqb, List, length, get_or, refl, ap, inl, inr, div-lt_iff_lt-mul, arith}
+use Rattle.std.proofs.Common.{◌≡◌, ℕ, ◌+◌, ◌*◌, ◌<◌, ◌≤◌, cond, eqb, List, length, get_or, refl, ap, inl, inr, div-lt_iff_lt-mul, add-one, arith}
 use Rattle.std.proofs.ByRecursion.{All-get_or}
-use Rattle.std.proofs.lemmas.Bool.{cases_lt, eq-eqb}
+use Rattle.std.proofs.lemmas.Bool.{cases_lt, eq-eqb, ne_eqb}
 use Rattle.model.specs.declared.Edge.{Edge}
 use Rattle.model.specs.declared.Timing.{Timing}
+use Rattle.model.specs.Loop.{Hardware}
 use Rattle.model.specs.Limits.{timing, hardware, TimingFits, MachineFits}
 use Rattle.model.specs.Minimum.{RecurrenceMinimum, IsMinimum, ClassWitness, rounded_up, own_minimum, resource_minimum, busy_sum}
 use Rattle.graph_laws.specs.Trails.{Leads}
 use Rattle.graph_laws.proofs.Total.{total_longer}
 use Rattle.graph_laws.proofs.Lower.{rounded_least}
 use Rattle.graph_laws.proofs.Sums.{greatest_above}
+
+pub busy_yes : (hw : Hardware) (j u : ℕ) → hw.class j ≡ u → busy_sum hw (j + 1) u ≡ busy_sum hw j u + hw.busy j
+busy_yes hw j u e = rw (add-one, eq-eqb _ _ e)
+
+pub busy_no : (hw : Hardware) (j u : ℕ) → (hw.class j ≡ u → ⊥) → busy_sum hw (j + 1) u ≡ busy_sum hw j u
+busy_no hw j u n = rw (add-one, ne_eqb _ _ n) (omega arith)
 
 rounded_some : (a b : ℕ) → 0 < b → 1 ≤ a → 1 ≤ rounded_up a b
 rounded_some a b pos some = elim (cases_lt (rounded_up a b) 1) [

@@ -1,7 +1,7 @@
 -- The circuit that the code names is a witness.
-use Rattle.std.proofs.Common.{◌≡◌, ℕ, zero, suc, ◌+◌, ◌-◌, ◌*◌, ◌<◌, ◌≤◌, List, [], ◌∷◌, ◌++◌, length, get_or, take, drop, sym, refl, ap, ◌∙◌, subst, inl, inr, add-one, arith, take-add}
+use Rattle.std.proofs.Common.{◌≡◌, ℕ, zero, suc, ◌+◌, ◌-◌, ◌*◌, ◌<◌, ◌≤◌, List, [], ◌∷◌, ◌++◌, length, get_or, take, drop, set, sym, refl, ap, ◌∙◌, subst, inl, inr, add-one, arith, take-add}
 use Rattle.std.specs.List.{AllByRecursion}
-use Rattle.std.proofs.lemmas.List.{length-take-le, length-drop, drop-drop, drop-take, take-take, drop_more, get_or-take, get_or-drop}
+use Rattle.std.proofs.lemmas.List.{length-take-le, length-drop, drop-drop, drop-take, take-take, drop_more, take_more, take_more_set, get_or-take, get_or-drop, append_assoc}
 use Rattle.std.proofs.lemmas.Bool.{cases_lt}
 use Rattle.model.specs.declared.Edge.{Edge}
 use Rattle.model.specs.Walks.{edge, Walk, delays, distances, froms, Simple, Within}
@@ -73,3 +73,19 @@ module _ (es : List Edge) where
       (subst (λ l. Simple es l) parts c.simple)
       (subst (λ l. AllByRecursion (λ v. s.0 ≤ v) (froms es l)) (sym whole ∙ parts) lowest)
       (subst (λ l. distances es l * k < delays es l) parts gains))
+
+-- one more edge behind
+pub pushed : (to start other : List ℕ) (len base low t : ℕ) → len < length to → low ≤ t → t < length other →
+    take len to ≡ take base start ++ take (t - low) (drop low other) →
+    take (len + 1) (set to len (get_or other t 0)) ≡ take base start ++ take ((t + 1) - low) (drop low other)
+pushed to start other len base low t room order inside inv =
+    let e : (t + 1) - low ≡ (t - low) + 1 = omega arith in
+    let f : low + (t - low) ≡ t = omega arith in
+    take_more_set to len (get_or other t 0) room ∙
+    ap (λ l. l ++ get_or other t 0 ∷ []) inv ∙
+    append_assoc (take base start) (take (t - low) (drop low other)) (get_or other t 0 ∷ []) ∙
+    ap (λ l. take base start ++ l) (
+    ap (λ x. take (t - low) (drop low other) ++ x ∷ []) (sym (get_or-drop low other (t - low) 0 ∙ ap (λ n. get_or other n 0) f)) ∙
+    sym (take_more (drop low other) (t - low) 0 (omega (arith, length-drop low other))) ∙
+    ap (λ n. take n (drop low other)) (sym e)
+    )
