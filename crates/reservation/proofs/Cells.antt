@@ -1,10 +1,10 @@
 -- What the counts say of uses.
-use Rattle.std.proofs.Common.{◌≡◌, ℕ, zero, suc, ◌+◌, ◌-◌, ◌%◌, ◌<◌, ◌≤◌, Bool, true, false, cond, not, ◌||◌, eqb, leb, List, [], ◌∷◌, ◌++◌, length, get_or, set, replicate, None, Option, sym, refl, ap, subst, subst₂, ◌∙◌, inl, inr, add-one, add-zero, arith}
+use Rattle.std.proofs.Common.{◌≡◌, ℕ, zero, suc, ◌+◌, ◌-◌, ◌%◌, ◌<◌, ◌≤◌, Bool, true, false, cond, not, ◌||◌, eqb, ltb, leb, List, [], ◌∷◌, ◌++◌, length, get_or, set, replicate, None, Option, sym, refl, ap, subst, subst₂, ◌∙◌, inl, inr, add-one, add-zero, arith}
 use Rattle.std.specs.List.{range_with_len, list_any, list_all, count_by}
-use Rattle.std.proofs.lemmas.List.{get_or-set_same, get_or-set_other}
+use Rattle.std.proofs.lemmas.List.{get_or-set_same, get_or-set_other, get_or_past}
 use Rattle.std.proofs.lemmas.List.Folds.{list_any-append}
 use Rattle.std.proofs.lemmas.List.Sums.{sum_by-append}
-use Rattle.std.proofs.lemmas.Bool.{cases_eq, cases_lt, eq-eqb, ne_eqb, ltb-true, ltb-false, leb-true, le-leb, or_parts, and_from, and_parts, both_ways}
+use Rattle.std.proofs.lemmas.Bool.{cases_eq, cases_lt, eq-eqb, ne_eqb, lt-ltb, le-ltb, ltb-true, ltb-false, leb-true, le-leb, or_parts, and_from, and_parts, both_ways}
 use Rattle.graph_laws.proofs.Steps.{zeros}
 use Rattle.model.specs.Schedule.{uses}
 use Rattle.model.specs.Search.{some_below}
@@ -14,7 +14,7 @@ use Rattle.reservation.specs.Views.{count, fits_of}
 use Rattle.reservation.specs.declared.uses.Uses.{Uses}
 use Rattle.reservation.specs.declared.table.ReservationTable.{ReservationTable}
 use Rattle.model.specs.declared.Timing.{Timing}
-use Rattle.search_laws.proofs.Crowds.{uses_hit}
+use Rattle.search_laws.proofs.Crowds.{one_left, uses_hit}
 use Rattle.search_laws.proofs.Ties.{at_class}
 use Rattle.search_laws.specs.Counts.{Added, Room, Has, over, over_in}
 
@@ -90,6 +90,17 @@ taken_off R down (suc n) a v h s =
     let before = taken_off R down n a s.0 (omega arith) s.1 in
     omega (arith, down s.0 v s.2)
 
+-- there is room for one more in the row of cycle b
+pub can_add : (k c t b busy row : ℕ) (cs ds : List (List ℕ)) → row ≡ (t + b) % k → row < 256 → c < 8 → b < busy → Added k c t b (cell ds) (cell cs) →
+    ((r : ℕ) → r < 256 → cell ds c r + uses k t busy r ≤ 255) → cell cs c row + 1 < 256
+can_add k c t b busy row cs ds er hr hc h inv room =
+    omega (arith, inv c row hc hr, at_class c (uses k t b row), room row hr, one_left k t b row er busy h)
+
+pub can_take : (k c t b busy row : ℕ) (cs ds : List (List ℕ)) → row ≡ (t + b) % k → row < 256 → c < 8 → b < busy → Added k c t b (cell cs) (cell ds) →
+    ((r : ℕ) → r < 256 → uses k t busy r ≤ cell ds c r) → 1 ≤ cell cs c row
+can_take k c t b busy row cs ds er hr hc h inv room =
+    omega (arith, inv c row hc hr, at_class c (uses k t b row), room row hr, one_left k t b row er busy h)
+
 -- after an addition for which there was room
 within_add : (k c t busy : ℕ) (before now : List (List ℕ)) (units : List ℕ) → Added k c t busy (cell before) (cell now) → Within before units → Room k c t busy (cell before) (λ u. get_or units u 0) → Within now units
 within_add k c t busy before now units added held room u r hu hr = elim (cases_eq u c) [
@@ -111,6 +122,32 @@ pub none_counted : (n m u r : ℕ) → cell (replicate n (replicate m 0)) u r �
 none_counted zero m u r = refl
 none_counted (suc n) m zero r = zeros m r
 none_counted (suc n) m (suc u) r = none_counted n m u r
+
+-- one more count copied
+pub copied_more : (counts units : List ℕ) (u : ℕ) → u < length counts → ((p : ℕ) → get_or counts p 0 ≡ cond (ltb p u) (get_or units p 0) 0) →
+    (p : ℕ) → get_or (set counts u (get_or units u 0)) p 0 ≡ cond (ltb p (u + 1)) (get_or units p 0) 0
+copied_more counts units u h inv p = elim (cases_eq p u) [
+  | inl e ↦ rw (e, lt-ltb u (u + 1) (omega arith)) (get_or-set_same counts u _ 0 h)
+  | inr n ↦ get_or-set_other counts u p _ 0 n ∙ (inv p ∙ ap (λ b. cond b (get_or units p 0) 0) (same_test p u n))
+]
+  where
+    same_test : (q m : ℕ) → (q ≡ m → ⊥) → ltb q m ≡ ltb q (m + 1)
+    same_test q m z = elim (cases_lt q m) [
+      | inl l ↦ lt-ltb q m l ∙ sym (lt-ltb q (m + 1) (omega arith))
+      | inr g ↦ le-ltb q m g ∙ sym (le-ltb q (m + 1) (omega arith))
+    ]
+
+pub copied_none : (n p : ℕ) (units : List ℕ) → get_or (replicate n 0) p 0 ≡ cond (ltb p 0) (get_or units p 0) 0
+copied_none n p units = zeros n p ∙ sym (rw (le-ltb p 0 (omega arith)))
+
+pub copied_all : (counts units : List ℕ) (u : ℕ) → length units ≤ u → ((p : ℕ) → get_or counts p 0 ≡ cond (ltb p u) (get_or units p 0) 0) → (p : ℕ) → get_or counts p 0 ≡ get_or units p 0
+copied_all counts units u h inv p = elim (cases_lt p u) [
+  | inl l ↦ inv p ∙ rw (lt-ltb p u l)
+  | inr g ↦ inv p ∙ (rw (le-ltb p u g) (sym (get_or_past units p 0 (omega arith))))
+]
+
+pub few_units : (units : List ℕ) (u : ℕ) → length units ≤ u → ((p : ℕ) → p < u → get_or units p 0 ≤ 8) → (p : ℕ) → get_or units p 0 ≤ 8
+few_units units u h inv p = elim (cases_lt p u) [ inl l ↦ inv p l | inr g ↦ omega (arith, get_or_past units p 0 (omega arith)) ]
 
 -- what a table takes
 bookable_parts : (c busy t : ℕ) → bookable c busy t ≡ true → (c < 8) × (busy ≤ 8) × (t ≤ 99999)
