@@ -1,7 +1,7 @@
 // The tokens of a line, as far as a form can reach.
 ghost use Rattle.std.specs.Prelude.{◌≡◌, map, take};
 ghost use Rattle.few.specs.Held.{held};
-ghost use Rattle.model.specs.Lines.{tokens, is_word, is_operand};
+ghost use Rattle.model.specs.Lines.{tokens, is_word, is_digits, is_operand};
 ghost use Rattle.reader.specs.Seen.{seen, shown, or_none};
 
 use crate::reader::Reader;
@@ -50,6 +50,12 @@ pub fn is_word(t: Option<Token<'_>>) -> bool
     ensures { result ≡ is_word (or_none (shown t.entry)).kind }
 {
     matches!(t, Some(Token::Operand(Operand::Word(_))))
+}
+
+pub fn is_digits(t: Option<Token<'_>>) -> bool
+    ensures { result ≡ is_digits (or_none (shown t.entry)).kind }
+{
+    matches!(t, Some(Token::Operand(Operand::Number(_))))
 }
 
 // Words and numbers are operands too.
