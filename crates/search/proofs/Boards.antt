@@ -158,8 +158,8 @@ pub beyond_then : (b b' : Board) → Same b b' → (q : ℕ) → size b ≤ q �
 beyond_then b b' same q h = b'.sound.beyond q (subst (λ k. length k.timings.now ≤ q) (sym same.task) h)
 
 -- what a board needs, as it is after a change
-pub weighed_then : (b : Board) (t' : ReservationTable) → Alike b.table t' → Weighed b.task.now.edges.now (size b) t'.interval b.task.now.weights
-weighed_then b t' same = subst (λ k. Weighed b.task.now.edges.now (size b) k b.task.now.weights) (sym same.interval) b.weighed
+pub weighed_then : (b : Board) (t' : ReservationTable) → Alike b.table t' → Weighed b.task.now.edges.now (size b) t'.interval b.task.now.weights.now
+weighed_then b t' same = subst (λ k. Weighed b.task.now.edges.now (size b) k b.task.now.weights.now) (sym same.interval) b.weighed
 
 -- room for an operation where those that it crowds out are gone
 pub room_moved : (b b' : Board) (j t : ℕ) → Same b b' → j < size b →
@@ -172,12 +172,12 @@ room_moved b b' j t same below gone none =
 
 -- the marks of torn operations say what the edges say
 pub torn_moved : (b b' : Board) (j : ℕ) (marks : List Bool) → Same b b' → j < size b →
-    ((q : ℕ) → q < size b' → get_or marks q false ≡ torn_by (weights_of b'.task.now.weights) (placed_on b') j q) →
+    ((q : ℕ) → q < size b' → get_or marks q false ≡ torn_by (weights_of b'.task.now.weights.now) (placed_on b') j q) →
     (q : ℕ) → q < size b → get_or marks q false ≡ torn b.table.interval (placed_on b') j b.task.now.edges.now q
 torn_moved b b' j marks same below are q h =
-    let here : get_or marks q false ≡ torn_by (weights_of b.task.now.weights) (placed_on b') j q =
-    subst (λ k. get_or marks q false ≡ torn_by (weights_of k.weights) (placed_on b') j q) same.task (are q (inside_then b b' same q h)) in
-    here ∙ torn_is b.task.now.edges.now (size b) b.table.interval b.task.now.weights b.weighed b.task.now.fitting.few j below (placed_on b') q h
+    let here : get_or marks q false ≡ torn_by (weights_of b.task.now.weights.now) (placed_on b') j q =
+    subst (λ k. get_or marks q false ≡ torn_by (weights_of k.weights.now) (placed_on b') j q) same.task (are q (inside_then b b' same q h)) in
+    here ∙ torn_is b.task.now.edges.now (size b) b.table.interval b.task.now.weights.now b.weighed b.task.now.fitting.few j below (placed_on b') q h
 
 -- the time that an operation takes
 module _ (s : Progress) (j : ℕ) (below : j < size s.board) (last : Option ℕ) (last_is : last ≡ times_of s.last j) (t : ℕ) (t_is : t ≡ slot_on s.board j last) where
@@ -187,15 +187,15 @@ module _ (s : Progress) (j : ℕ) (below : j < size s.board) (last : Option ℕ)
   abbrev es : List Edge
   es = b.task.now.edges.now
 
-  early_now : early_by (weights_of b.task.now.weights) (placed_on b) j (size b) ≡ early b.table.interval (placed_on b) j es
-  early_now = early_is es (size b) b.table.interval b.task.now.weights b.weighed b.task.now.fitting.few j below (placed_on b)
+  early_now : early_by (weights_of b.task.now.weights.now) (placed_on b) j (size b) ≡ early b.table.interval (placed_on b) j es
+  early_now = early_is es (size b) b.table.interval b.task.now.weights.now b.weighed b.task.now.fitting.few j below (placed_on b)
 
-  pub slot_of : early_by (weights_of b.task.now.weights) (placed_on b) j (size b) < 65600 → t ≡ slot es (hw b) (size b) b.table.interval (state_of s) j
+  pub slot_of : early_by (weights_of b.task.now.weights.now) (placed_on b) j (size b) < 65600 → t ≡ slot es (hw b) (size b) b.table.interval (state_of s) j
   slot_of small =
-      let from : ℕ = early_by (weights_of b.task.now.weights) (placed_on b) j (size b) in
+      let from : ℕ = early_by (weights_of b.task.now.weights.now) (placed_on b) j (size b) in
       t_is ∙ (ap (λ l. unwrap_or (first (fits_of b.table (timing (timings_of b) j)) from b.table.interval) (fallback l from)) last_is ∙
       slot_is es (hw b) (size b) b.table.interval (state_of s) j from _ early_now
       (window_is (timings_of b) b.table (placed_on b) b.task.now.fitting b.sound j below from small))
 
-  pub slot_small : early_by (weights_of b.task.now.weights) (placed_on b) j (size b) < 65600 → LowIn s → s.taken < 192 → t < 65536
+  pub slot_small : early_by (weights_of b.task.now.weights.now) (placed_on b) j (size b) < 65600 → LowIn s → s.taken < 192 → t < 65536
   slot_small small low steps = slot_fits es (hw b) (size b) b.table.interval (state_of s) j t (short_edges (size b) es b.weighed.fit) b.weighed.small steps low (slot_of small)

@@ -45,7 +45,7 @@ state_of s = record { time = placed_on s.board; last = times_of s.last; taken = 
 
 -- The early time of an operation, and the time that it takes, by what the board holds.
 abbrev pub early_on : Board → ℕ → ℕ
-early_on b j = early_by (weights_of b.task.now.weights) (placed_on b) j (size b)
+early_on b j = early_by (weights_of b.task.now.weights.now) (placed_on b) j (size b)
 
 abbrev pub slot_on : Board → ℕ → Option ℕ → ℕ
 slot_on b j last = unwrap_or (first (fits_of b.table (timing (timings_of b) j)) (early_on b j) b.table.interval) (fallback last (early_on b j))

@@ -15,5 +15,5 @@ pub struct Board<'a> {
     pub(crate) table: ReservationTable,
     ghost sound: { Sound task.now.timings.now table time } by { Prim.hlevel props },
     ghost alone: { AloneFits task.now.timings.now table },
-    ghost weighed: { Weighed task.now.edges.now (length task.now.timings.now) table.interval task.now.weights } by { Prim.hlevel props },
+    ghost weighed: { Weighed task.now.edges.now (length task.now.timings.now) table.interval task.now.weights.now } by { Prim.hlevel props },
 }

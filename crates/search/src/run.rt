@@ -21,7 +21,7 @@ use reservation::{ReservationTable, TimeTable};
 // The search from a fresh table: at most six steps for each operation.
 fn run(task: &Task, table: ReservationTable) -> Outcome
     requires alone { AloneFits task.now.timings.now table }
-    requires weighed { Weighed task.now.edges.now (length task.now.timings.now) table.interval task.now.weights }
+    requires weighed { Weighed task.now.edges.now (length task.now.timings.now) table.interval task.now.weights.now }
     requires empty { (u r : ℕ) → u < 8 → r < 256 → count table u r ≡ 0 }
     ensures { outcome result ≡ search task.now.edges.now (hw_of task.now.timings.now table) (length task.now.timings.now) (height task.now) table.interval }
 {
@@ -78,11 +78,12 @@ pub fn search(
     if !alone_fit(timings, units, interval) {
         return Err(NoSearch::Narrow);
     }
+    let weights = Weights::new(edges, interval);
     let task = Task {
         edges,
         timings,
         heights,
-        weights: Weights::new(edges, interval),
+        weights: &weights,
     };
     Ok(run(&task, table))
 }

@@ -31,7 +31,7 @@ impl Board<'_> {
     // What the edges from operation q ask of the early time of another.
     fn asked_by(&self, q: usize, op: usize) -> usize
         requires { (q < 32) × (op < 32) }
-        ensures value { result ≡ (if nat_eq q op then 0 else asked (weights_of self.now.task.now.weights q op) (placed_on self.now q)) }
+        ensures value { result ≡ (if nat_eq q op then 0 else asked (weights_of self.now.task.now.weights.now q op) (placed_on self.now q)) }
         ensures small { result < 65600 }
     {
         if q == op {
@@ -65,7 +65,7 @@ impl Board<'_> {
     // Operation q is the far end of an edge of another that is not met.
     fn is_torn(&self, op: usize, q: usize) -> bool
         requires { (op < 32) × (q < 32) }
-        ensures { result ≡ torn_by (weights_of self.now.task.now.weights) (placed_on self.now) op q }
+        ensures { result ≡ torn_by (weights_of self.now.task.now.weights.now) (placed_on self.now) op q }
     {
         let (Some(here), Some(there)) = (self.time.at(op), self.time.at(q)) else {
             return false;
@@ -79,7 +79,7 @@ impl Board<'_> {
     // The far ends of an operation's edges that are not met.
     pub(crate) fn torn(&self, op: usize) -> [bool; 32]
         requires { op < 32 }
-        ensures { (q : ℕ) → q < size self.now → slice_index_or result q false ≡ torn_by (weights_of self.now.task.now.weights) (placed_on self.now) op q }
+        ensures { (q : ℕ) → q < size self.now → slice_index_or result q false ≡ torn_by (weights_of self.now.task.now.weights.now) (placed_on self.now) op q }
     {
         let mut marks = [false; 32];
         for q in 0..self.task.timings.len() {

@@ -10,6 +10,6 @@ pub struct Task<'a> {
     pub(crate) edges: &'a [Edge],
     pub(crate) timings: &'a [Timing],
     pub(crate) heights: [usize; 32],
-    pub(crate) weights: Weights,
+    pub(crate) weights: &'a Weights,
     ghost fitting: { Fitting timings.now },
 }

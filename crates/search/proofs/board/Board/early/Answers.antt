@@ -14,7 +14,7 @@ use Rattle.search.proofs.board.Board.early.Goals as goal
 pub returns : goal.returns
 returns c =
     let b = c.args.self.now in
-    let h = asked_from (weights_of b.task.now.weights) (placed_on b) c.args.op in
+    let h = asked_from (weights_of b.task.now.weights.now) (placed_on b) c.args.op in
     let J : List ℕ → ℕ → Type 0 = λ ys a. (a ≡ fold (λ x q. max x (h q)) 0 ys) × (a < 65600) in
     let road = YieldsList-from_range 0 (size b) (size b) refl (omega arith) in
     let all = fold_over nat_range_steps (λ x. x) _ J _ (λ ys a x r f' j k.
@@ -22,4 +22,4 @@ returns c =
     let greater = greater_is a got.0 in
     let more = fold-append (λ x q. max x (h q)) 0 ys (x ∷ []) in
     ((omega (arith, more, got.1, got.3), omega (arith, got.2, got.3)), search (rules, tests))) (record { start = 0; end = size b }) _ 0 c.fold.result road.runs (refl, omega arith) c.fold.ensures.ran in
-    record { value = all.0 ∙ greatest_asked (weights_of b.task.now.weights) (placed_on b) c.args.op (size b); small = all.1 }
+    record { value = all.0 ∙ greatest_asked (weights_of b.task.now.weights.now) (placed_on b) c.args.op (size b); small = all.1 }

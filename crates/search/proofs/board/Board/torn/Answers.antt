@@ -8,6 +8,6 @@ use Rattle.search.proofs.board.Board.torn.Goals as goal
 pub loop-q-preserved : goal.loop-q-preserved
 loop-q-preserved c =
     let b = c.args.self.now in (
-      marks_more (torn_by (weights_of b.task.now.weights) (placed_on b) c.args.op) c.loop-q.marks c.loop-q.q c.is_torn.result (search rules) c.is_torn.ensures c.loop-q.invariant.0,
+      marks_more (torn_by (weights_of b.task.now.weights.now) (placed_on b) c.args.op) c.loop-q.marks c.loop-q.q c.is_torn.result (search rules) c.is_torn.ensures c.loop-q.invariant.0,
       search rules,
     )

@@ -6,4 +6,4 @@ use Rattle.search.proofs.board.Board.torn.Given as goal
 
 abbrev pub invariant-loop-q : goal.invariant-loop-q
 invariant-loop-q l =
-    ((p : ℕ) → p < l.q → get_or l.marks p false ≡ torn_by (weights_of l.self.task.now.weights) (placed_on l.self) l.op p) × (length l.marks ≡ 32)
+    ((p : ℕ) → p < l.q → get_or l.marks p false ≡ torn_by (weights_of l.self.task.now.weights.now) (placed_on l.self) l.op p) × (length l.marks ≡ 32)
