@@ -1,7 +1,7 @@
 // Texts between quotes, with their escapes.
-ghost use Rattle.std.specs.Prelude.{◌≡◌, ◌<◌, length};
-ghost use Rattle.script.specs.Escapes.{hex_digit, hex_value, step_of, unescaped};
-ghost use Rattle.script.specs.Spelling.{length_in, fitting, filled};
+ghost use Rattle.std.specs.Prelude.{◌≡◌, ◌<◌, true, length};
+ghost use Rattle.script.specs.Escapes.{hex_digit, hex_value, step_of, spelled, unescaped};
+ghost use Rattle.script.specs.Spelling.{length_in, told, is_byte, fitting, filled};
 
 // What stands before a byte: nothing of an escape, a backslash, \x, or \x and a digit.
 #[derive(Clone, Copy, PartialEq, Eq, Debug)]
@@ -71,25 +71,56 @@ fn effect(after: After, b: u8) -> Option<Step>
     }
 }
 
+// What is left of a body, and what stands before it.
+#[derive(Drop)]
+struct Body<'a> {
+    after: After,
+    bytes: &'a [u8],
+}
+
+impl<'a> Body<'a> {
+    fn new(bytes: &'a [u8]) -> Body<'a>
+        ensures after { result.after ≡ After.Plain }
+        ensures bytes { result.bytes.now ≡ bytes.now }
+    {
+        Body {
+            after: After::Plain,
+            bytes,
+        }
+    }
+
+    // The next byte that is spelled, and none at the end, if the escapes up to there are in order.
+    fn next_byte(&mut self) -> Option<Option<u8>>
+        ensures value { spelled self.old.after self.old.bytes.now ≡ told result (spelled self.new.after self.new.bytes.now) }
+        ensures shorter { is_byte result ≡ true → length self.new.bytes.now < length self.old.bytes.now }
+    {
+        while let Some((b, rest)) = self.bytes.split_first() {
+            self.bytes = rest;
+            match effect(self.after, *b)? {
+                Step::Turn(next) => self.after = next,
+                Step::Put(x) => {
+                    self.after = After::Plain;
+                    return Some(Some(x));
+                }
+            }
+        }
+        match self.after {
+            After::Plain => Some(None),
+            After::Backslash | After::Hex | After::Digit(_) => None,
+        }
+    }
+}
+
 // The length of the text that a body spells, if its escapes are in order.
 pub(crate) fn text_len(body: &[u8]) -> Option<usize>
     ensures { result ≡ length_in (unescaped body.now) }
 {
-    let mut after = After::Plain;
-    let mut n = 0;
-    for b in body {
-        match effect(after, *b)? {
-            Step::Turn(next) => after = next,
-            Step::Put(_) => {
-                after = After::Plain;
-                n += 1;
-            }
-        }
+    let mut left = Body::new(body);
+    let mut n: usize = 0;
+    while let Some(_) = left.next_byte()? {
+        n += 1;
     }
-    match after {
-        After::Plain => Some(n),
-        After::Backslash | After::Hex | After::Digit(_) => None,
-    }
+    Some(n)
 }
 
 // Writes the text that a body spells to the front of a buffer, and answers its length. Nothing is written if the escapes are not in order or the buffer is too short.
@@ -101,17 +132,11 @@ pub fn unescape(body: &[u8], out: &mut [u8]) -> Option<usize>
     if total > out.len() {
         return None;
     }
-    let mut after = After::Plain;
+    let mut left = Body::new(body);
     let mut n = 0;
-    for b in body {
-        match effect(after, *b)? {
-            Step::Turn(next) => after = next,
-            Step::Put(x) => {
-                after = After::Plain;
-                out[n] = x;
-                n += 1;
-            }
-        }
+    while let Some(b) = left.next_byte()? {
+        out[n] = b;
+        n += 1;
     }
     Some(total)
 }

@@ -8,6 +8,9 @@ abbrev pub invariant-loop-b : goal.invariant-loop-b
 invariant-loop-b l =
     (l.total ≤ length l.out)
     × (length_in (unescaped l.body) ≡ Some l.total)
-    × (plus l.n (length_in (spelled l.after (drop l.b-index l.body))) ≡ Some l.total)
-    × (behind (take l.n l.out) (spelled l.after (drop l.b-index l.body)) ≡ unescaped l.body)
+    × (plus l.n (length_in (spelled l.left.after l.left.bytes.now)) ≡ Some l.total)
+    × (behind (take l.n l.out) (spelled l.left.after l.left.bytes.now) ≡ unescaped l.body)
     × (drop l.n l.out ≡ drop l.n l.initial.out)
+
+abbrev pub decreases-loop-b : goal.decreases-loop-b
+decreases-loop-b l = length l.left.bytes.now
