@@ -90,6 +90,8 @@ impl<'a> Body<'a> {
     }
 
     // The next byte that is spelled, and none at the end, if the escapes up to there are in order.
+    // Written out where it is called, since it runs for every byte.
+    #[inline(always)]
     fn next_byte(&mut self) -> Option<Option<u8>>
         ensures value { spelled self.old.after self.old.bytes.now ≡ told result (spelled self.new.after self.new.bytes.now) }
         ensures shorter { is_byte result ≡ true → length self.new.bytes.now < length self.old.bytes.now }
