@@ -7,6 +7,8 @@ use crate::list::{Few, Full};
 
 impl<T: Copy, const N: usize> Few<T, N> {
     // No item. The value stands at places that say nothing.
+    // Written out where it is called, since a list that is answered is copied item by item.
+    #[inline(always)]
     pub fn new(blank: T) -> Few<T, N>
         ensures { held result ≡ [] }
     {

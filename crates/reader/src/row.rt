@@ -11,7 +11,8 @@ use few::Few;
 // No form has more than five tokens, so six tell whether a line has too many.
 pub type Row<'a> = Few<Token<'a>, 6>;
 
-// The first six tokens of a line.
+// The first six tokens of a line. Written out where it is called, since a row that is answered is copied.
+#[inline(always)]
 pub fn row_of<'a>(line: &'a [u8], number: usize) -> Row<'a>
     ensures { map seen (held result) ≡ take 6 (tokens (record { number = number; bytes = line.now })) }
 {

@@ -63,6 +63,8 @@ fn word_of(operator: Operator) -> &'static [u8]
     }
 }
 
+// Written out where it is called, where the operator is known.
+#[inline(always)]
 fn binary_form<'a>(row: &[Token<'a>], operator: Operator) -> Option<Form<'a>>
     ensures { BinaryFormed operator (map seen row.now) result }
 {

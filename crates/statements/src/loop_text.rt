@@ -127,6 +127,8 @@ impl Record for Statements {
 
     ghost rules = { statement_rules };
 
+    // Written out where it is called, as the list is.
+    #[inline(always)]
     fn new() -> Statements {
         let unsaid = Statement {
             line: 0,
@@ -147,13 +149,13 @@ impl Record for Statements {
         if !all_between(line, 32, 126) {
             return Err(TextFault::Unprintable { line: number });
         }
-        let row = row_of(line, number);
+        let row = &row_of(line, number);
         let row = row.as_slice();
-        if let Some(form) = find_loop_form(row) {
-            return form_line(self, number, form);
-        }
         if row.is_empty() {
             return Ok(());
+        }
+        if let Some(form) = find_loop_form(row) {
+            return form_line(self, number, form);
         }
         Err(TextFault::NoForm { line: number })
     }

@@ -159,16 +159,16 @@ impl Record for Entries {
         if !all_between(line, 32, 126) {
             return Err(TextFault::Unprintable { line: number });
         }
-        let row = row_of(line, number);
+        let row = &row_of(line, number);
         let row = row.as_slice();
+        if row.is_empty() {
+            return Ok(());
+        }
         if let Some(said) = unit_form(row) {
             return unit_line(self, number, said);
         }
         if let Some(said) = op_form(row) {
             return op_line(self, said);
-        }
-        if row.is_empty() {
-            return Ok(());
         }
         Err(TextFault::NoForm { line: number })
     }
